@@ -1,0 +1,10 @@
+pub mod Integer
+pub mod Halves
+pub mod SignedHalves
+pub mod Sums
+pub mod Orders
+pub mod Counts
+pub mod Magnitudes
+pub mod Shifts
+pub mod Products
+pub mod Quotients

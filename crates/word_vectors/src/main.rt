@@ -1,0 +1,65 @@
+// Replays test vectors against the crate word: standard input has a line for each, and standard output gets the answers.
+// It stops at a malformed line, and at the end of the input.
+mod answers;
+mod lines;
+
+ghost use Rattle.io.specs.Counts.{Counts};
+use libc::STDIN_FILENO;
+use libc::STDOUT_FILENO;
+use lines::put_answer_to;
+
+struct Replayed {
+    len: usize,
+    is_whole: bool,
+}
+
+// Puts the answers to the lines of block at the start of out.
+fn replay(block: &[u8], out: &mut [u8]) -> Replayed
+    ensures { λ r. ⌜ Counts (r .len) (now (out .exit)) ⌝ }
+{
+    let mut from = 0;
+    let mut len = 0;
+    while 69 <= block.len() - from {
+        if out.len() - len < 33 {
+            return Replayed {
+                len: len,
+                is_whole: false,
+            };
+        }
+        let end = put_answer_to(&block[from..from + 69], out, len);
+        if end == len {
+            return Replayed {
+                len: len,
+                is_whole: false,
+            };
+        }
+        len = end;
+        from += 69;
+    }
+    Replayed {
+        len: len,
+        is_whole: from == block.len(),
+    }
+}
+
+// Replays 64 lines, and answers whether there may be more. A line has 69 bytes, and an answer at most 33.
+fn replay_some() -> bool {
+    let mut block = [0u8; 4416];
+    let mut out = [0u8; 2112];
+    let n = io::read_full(STDIN_FILENO, &mut block);
+    let replayed = replay(&block[..n], &mut out);
+    let len = replayed.len;
+    if io::write_all(STDOUT_FILENO, &out[..len]) {
+        if n == 4416 { replayed.is_whole } else { false }
+    } else {
+        false
+    }
+}
+
+// A proved loop has to end: it counts its turns down, from a number that no run uses up.
+fn main() {
+    let mut turns = u64::MAX;
+    while turns > 0 && replay_some() {
+        turns -= 1;
+    }
+}
