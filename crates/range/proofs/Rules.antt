@@ -1,0 +1,60 @@
+-- Signs, amounts of shifts and sizes of divisors. Assumes nothing.
+use mathlib.Core.Path.{_≡_, refl, sym, ap, _∙_}
+use mathlib.Core.Bool.{Bool, true, false, not, cond}
+use mathlib.Core.Option.{some}
+use Prim.Native.Nat.{ℕ, min, suc, _+_, _-_, _*_, _%_, _^_, _<_, _≤_}
+use native.Mathlib.Nat.{min-eq-right, one-mul, mod-eq-of-lt}
+use native.Mathlib.Omega.{arith}
+use borrow.Author.Tests.{le-leb}
+use lib.Dec.{ltb, lit≤}
+use lib.IntN.{ℤ, pos, negsuc, _-ℤ_}
+use lib.Pow.{pow-lt}
+use lib.Signed.{leZ, mag}
+use Rattle.word.specs.declared.Word.{Word}
+use Rattle.word.specs.Value.{val, residue, signed, wrapped, fits, fitted, isNeg, maxZ}
+use Rattle.word.proofs.Integer.{signed-low, residue-pos, residue-negsuc}
+use Rattle.word.proofs.Magnitudes.{answered}
+use Rattle.word.proofs.Sums.{under-twice, checked-sub}
+use Rattle.range.specs.Interval.{clamped}
+
+pub not-negative : (z : ℤ) → not (isNeg z) ≡ leZ (pos 0) z
+not-negative (pos n) = sym (le-leb 0 n (omega arith))
+not-negative (negsuc n) = refl
+
+-- ---- shifts
+
+-- the amount that a bound stands for, by its pattern: that of a negative bound is past 128
+pub amount : (z : ℤ) → mag z < 2 ^ 127 → min (residue 128 z) 128 ≡ clamped z
+unfolding clamped
+amount (pos n) h = ap (λ (r : ℕ). min r 128) (residue-pos 128 n (under-twice (2 ^ 127) h))
+amount (negsuc n) h = ap (λ (r : ℕ). min r 128) (residue-negsuc 128 n (under-twice (2 ^ 127) h)) ∙ min-eq-right (far (2 ^ 127) n (lit≤ tt) h)
+  where
+    far : (H n : ℕ) → 128 ≤ H → n < H → 128 ≤ H + H - suc n
+    far H n f g = omega arith
+
+-- an amount below 128 lies in the low half
+pub low-amount : (w : Word) → val w < 128 → w .lo % 256 ≡ min (val w) 128
+unfolding val
+low-amount w h = omega arith
+
+-- 2 ^ k, as the code makes it
+pub power-signed : (k : ℕ) → k < 127 → signed 128 (1 * 2 ^ k % 2 ^ 128) ≡ pos (2 ^ k)
+power-signed k h =
+    let l : 2 ^ k < 2 ^ 127 = pow-lt h in
+    rw (one-mul, mod-eq-of-lt (under-twice (2 ^ 127) l)) (signed-low 128 (2 ^ k) l)
+
+-- ---- sizes
+
+-- a difference of two integers that are not below 0 fits
+pub difference-fits : (x y : ℤ) → isNeg x ≡ false → isNeg y ≡ false → mag x < 2 ^ 127 → mag y < 2 ^ 127 → wrapped (x -ℤ y) ≡ x -ℤ y
+difference-fits (pos a) (pos b) s t f g = answered (fits (pos a -ℤ pos b)) (wrapped (pos a -ℤ pos b)) (pos a -ℤ pos b) (checked-sub (pos a) (pos b) f g)
+difference-fits (pos a) (negsuc b) s t f g = cc
+difference-fits (negsuc a) y s t f g = cc
+
+-- the greater of two answered sizes is not below 0
+pub larger-size : {x y : ℤ} (m n : ℕ) → some x ≡ fitted (pos m) → some y ≡ fitted (pos n) → isNeg (maxZ x y) ≡ false
+larger-size {x} {y} m n e f = rw (answered (fits (pos m)) x (pos m) e, answered (fits (pos n)) y (pos n) f) (of (ltb n m))
+  where
+    of : (t : Bool) → isNeg (cond t (pos m) (pos n)) ≡ false
+    of true = refl
+    of false = refl

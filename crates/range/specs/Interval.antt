@@ -1,0 +1,161 @@
+-- Intervals of integers: what a range stands for, the interval of a type, and the range rules of native.rs.
+use mathlib.Core.Bool.{Bool, true, false, not}
+use mathlib.Core.Option.{Option, none, some}
+use Prim.Native.Nat.{ℕ, min, _-_, _^_}
+use lib.Dec.{ltb}
+use lib.IntN.{ℤ, pos, negsuc, natAbs, negℤ, _+ℤ_, _-ℤ_, _*ℤ_}
+use lib.Signed.{ltZ, leZ, shrZ, _≤ℤ_}
+use Rattle.word.specs.Value.{intOf, fitted, only, provided, minZ, maxZ, eqZ, quotient}
+use Rattle.range.specs.declared.Range.{Range}
+use Rattle.range.specs.declared.MaybeRange.{MaybeRange}
+use Rattle.range.specs.declared.MaybeRange.the-variants as range
+use Rattle.range.specs.declared.ScalarType.{ScalarType}
+use Rattle.range.specs.declared.ScalarType.the-variants as ty
+
+-- the integers from low to high
+pub record Interval : Type 0 where
+  pub low : ℤ
+  pub high : ℤ
+
+-- z lies in an interval
+pub record _∈_ (z : ℤ) (a : Interval) : Type 0 where
+  pub above : a .low ≤ℤ z
+  pub below : z ≤ℤ a .high
+
+-- what a Range stands for
+abbrev pub boundsOf : Range → Interval
+boundsOf r = record { low = intOf (r .min); high = intOf (r .max) }
+
+abbrev pub intervalOf : MaybeRange → Option Interval
+intervalOf (range.Some r) = some (boundsOf r)
+intervalOf range.None = none
+
+-- are both tests true?
+abbrev pub both : Bool → Bool → Bool
+both true t = t
+both false t = false
+
+-- is one of two tests true?
+abbrev pub one : Bool → Bool → Bool
+one true t = true
+one false t = t
+
+-- z alone
+abbrev pub point : ℤ → Interval
+point z = record { low = z; high = z }
+
+-- is z in a?
+abbrev pub within : Interval → ℤ → Bool
+within a z = both (leZ (a .low) z) (leZ z (a .high))
+
+-- have a and b the same ends?
+abbrev pub sameInterval : Interval → Interval → Bool
+sameInterval a b = both (eqZ (a .low) (b .low)) (eqZ (a .high) (b .high))
+
+-- is no integer of a below 0?
+abbrev pub nonnegative : Interval → Bool
+nonnegative a = leZ (pos 0) (a .low)
+
+-- ---- types
+
+-- Bits(w): 0 to 2 ^ w - 1, which is no range of 128-bit integers at width 128
+unfoldable pub bitsInterval : ℕ → Option Interval
+bitsInterval w = only (ltb w 128) (record { low = pos 0; high = pos (2 ^ w - 1) })
+
+-- Bool: 0 to 1; Integer: none
+abbrev pub typeInterval : ScalarType → Option Interval
+typeInterval ty.Bool = some (record { low = pos 0; high = pos 1 })
+typeInterval (ty.Bits w) = bitsInterval w
+typeInterval ty.Integer = none
+
+-- a as the range of a result in Bits(w), if it lies inside the type
+unfoldable pub filtered : ℕ → Interval → Option Interval
+filtered w a = only (both (ltb w 128) (both (nonnegative a) (leZ (a .high) (pos (2 ^ w - 1))))) a
+
+-- the integers of w bits in two's complement
+unfoldable pub signExtended : ℕ → Option Interval
+signExtended w = only (both (ltb 0 w) (ltb w 128)) (record { low = negℤ (pos (2 ^ (w - 1))); high = pos (2 ^ (w - 1) - 1) })
+
+-- ---- the rules
+
+-- from one result to the other, if both are there
+abbrev pub between : Option ℤ → Option ℤ → Option Interval
+between none h = none
+between (some l) none = none
+between (some l) (some h) = some (record { low = l; high = h })
+
+unfoldable pub addInterval : Interval → Interval → Option Interval
+addInterval a b = between (fitted (a .low +ℤ b .low)) (fitted (a .high +ℤ b .high))
+
+unfoldable pub subInterval : Interval → Interval → Option Interval
+subInterval a b = between (fitted (a .low -ℤ b .high)) (fitted (a .high -ℤ b .low))
+
+unfoldable pub negInterval : Interval → Option Interval
+negInterval a = between (fitted (negℤ (a .high))) (fitted (negℤ (a .low)))
+
+-- from the least to the greatest of four results, if all are there
+abbrev pub cornersOf : Option ℤ → Option ℤ → Option ℤ → Option ℤ → Option Interval
+cornersOf none q r s = none
+cornersOf (some p) none r s = none
+cornersOf (some p) (some q) none s = none
+cornersOf (some p) (some q) (some r) none = none
+cornersOf (some p) (some q) (some r) (some s) =
+    some (record { low = minZ (minZ p q) (minZ r s); high = maxZ (maxZ p q) (maxZ r s) })
+
+unfoldable pub mulInterval : Interval → Interval → Option Interval
+mulInterval a b =
+    cornersOf (fitted (a .low *ℤ b .low)) (fitted (a .low *ℤ b .high)) (fitted (a .high *ℤ b .low)) (fitted (a .high *ℤ b .high))
+
+-- is 0 no divisor, and no quotient -(2 ^ 127) / -1?
+unfoldable pub divisible : Interval → Interval → Bool
+divisible a b =
+    both (one (ltZ (pos 0) (b .low)) (ltZ (b .high) (pos 0))) (not (both (within a (negsuc (2 ^ 127 - 1))) (within b (negsuc 0))))
+
+unfoldable pub quotInterval : Interval → Interval → Option Interval
+quotInterval a b =
+    provided (divisible a b)
+    (cornersOf (quotient (a .low) (b .low)) (quotient (a .low) (b .high)) (quotient (a .high) (b .low)) (quotient (a .high) (b .high)))
+
+-- the part of a with sizes below m, stretched to 0
+abbrev pub cut : Interval → ℤ → Interval
+cut a m = record { low = minZ (maxZ (a .low) (pos 1 -ℤ m)) (pos 0); high = maxZ (minZ (a .high) (m -ℤ pos 1)) (pos 0) }
+
+-- a cut to the larger of two sizes, if both are there
+abbrev pub cutTo : Interval → Option ℤ → Option ℤ → Option Interval
+cutTo a none n = none
+cutTo a (some m) none = none
+cutTo a (some m) (some n) = some (cut a (maxZ m n))
+
+unfoldable pub remInterval : Interval → Interval → Option Interval
+remInterval a b = provided (divisible a b) (cutTo a (fitted (pos (natAbs (b .low)))) (fitted (pos (natAbs (b .high)))))
+
+unfoldable pub andInterval : Interval → Interval → Option Interval
+andInterval a b = provided (both (nonnegative a) (nonnegative b)) (between (some (pos 0)) (some (minZ (a .high) (b .high))))
+
+unfoldable pub udivInterval : Interval → Interval → Option Interval
+udivInterval a b = provided (both (nonnegative a) (ltZ (pos 0) (b .low))) (between (some (pos 0)) (quotient (a .high) (b .low)))
+
+-- the lesser of z and an answer
+abbrev pub atMost : ℤ → Option ℤ → Option ℤ
+atMost z none = none
+atMost z (some m) = some (minZ z m)
+
+unfoldable pub uremInterval : Interval → Interval → Option Interval
+uremInterval a b = provided (both (nonnegative a) (ltZ (pos 0) (b .low))) (between (some (pos 0)) (atMost (a .high) (fitted (b .high -ℤ pos 1))))
+
+-- a shift's amount, at most 128
+unfoldable pub clamped : ℤ → ℕ
+clamped (pos n) = min n 128
+clamped (negsuc n) = 128
+
+-- z * 2 ^ n, if n is below 127 and the product fits
+unfoldable pub shifted : ℤ → ℤ → Option ℤ
+shifted z n = provided (ltb (clamped n) 127) (fitted (z *ℤ pos (2 ^ clamped n)))
+
+unfoldable pub shlInterval : Interval → Interval → Option Interval
+shlInterval a b = provided (both (nonnegative a) (nonnegative b)) (between (shifted (a .low) (b .low)) (shifted (a .high) (b .high)))
+
+unfoldable pub shrInterval : Interval → Interval → Option Interval
+shrInterval a b =
+    only (both (nonnegative a) (nonnegative b))
+    (record { low = shrZ (a .low) (2 ^ clamped (b .high)); high = shrZ (a .high) (2 ^ clamped (b .low)) })
