@@ -1,2 +1,4 @@
 pub mod Types
 pub mod Rules
+pub mod Order
+pub mod Sound

@@ -18,6 +18,7 @@ pub record Interval : Type 0 where
   pub high : ℤ
 
 -- z lies in an interval
+infix 50 _∈_
 pub record _∈_ (z : ℤ) (a : Interval) : Type 0 where
   pub above : a .low ≤ℤ z
   pub below : z ≤ℤ a .high

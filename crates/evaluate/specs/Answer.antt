@@ -1,0 +1,39 @@
+-- The evaluators as calls: question 2 first, then a value or None.
+use mathlib.Core.Bool.{cond}
+use mathlib.Core.Option.{Option, none, some}
+use Prim.Native.Nat.{ℕ}
+use lib.Dec.{leb}
+use Rattle.word.specs.Value.{val}
+use Rattle.range.specs.declared.ScalarType.{ScalarType}
+use Rattle.evaluate.specs.declared.Unary.{Unary}
+use Rattle.evaluate.specs.declared.Binary.{Binary}
+use Rattle.evaluate.specs.declared.Evaluated.{Evaluated}
+use Rattle.evaluate.specs.declared.Evaluated.the-variants as evaluated
+use Rattle.evaluate.specs.Evaluate.{evaluateUnary, evaluateBinary}
+use Rattle.evaluate.specs.Operator.{refusalNumber, unaryWidth, typeWidth}
+
+-- a pattern, None, or a refusal by its number
+pub data Outcome : Type 0 where
+  value : ℕ → Outcome
+  nothing : Outcome
+  refused : ℕ → Outcome
+
+abbrev pub outcomeOf : Evaluated → Outcome
+outcomeOf (evaluated.Value w) = value (val w)
+outcomeOf evaluated.None = nothing
+outcomeOf (evaluated.Refused r) = refused (refusalNumber r)
+
+-- an optional value as an outcome
+abbrev pub answered : Option ℕ → Outcome
+answered none = nothing
+answered (some n) = value n
+
+-- question 2: is the width at most 128?
+abbrev pub asked : ℕ → Outcome → Outcome
+asked w o = cond (leb w 128) o (refused 2)
+
+unfoldable pub evaluateUnaryCall : Unary → ℕ → Outcome
+evaluateUnaryCall o v = asked (unaryWidth o) (answered (evaluateUnary o v))
+
+unfoldable pub evaluateBinaryCall : Binary → ScalarType → ℕ → ℕ → Outcome
+evaluateBinaryCall o t a b = asked (typeWidth t) (answered (evaluateBinary o t a b))
