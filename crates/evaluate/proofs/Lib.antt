@@ -1,1 +1,9 @@
 pub mod Patterns
+pub mod Fields
+pub mod Answers
+pub mod Shifts
+pub mod Orders
+pub mod Division
+pub mod Agreement
+pub mod Differences
+pub mod Bench

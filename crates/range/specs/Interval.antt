@@ -2,7 +2,7 @@
 use mathlib.Core.Bool.{Bool, true, false, not}
 use mathlib.Core.Option.{Option, none, some}
 use Prim.Native.Nat.{ℕ, min, _-_, _^_}
-use lib.Dec.{ltb}
+use lib.Dec.{leb, ltb}
 use lib.IntN.{ℤ, pos, negsuc, natAbs, negℤ, _+ℤ_, _-ℤ_, _*ℤ_}
 use lib.Signed.{ltZ, leZ, shrZ, _≤ℤ_}
 use Rattle.word.specs.Value.{intOf, fitted, only, provided, minZ, maxZ, eqZ, quotient}
@@ -68,6 +68,16 @@ abbrev pub typeInterval : ScalarType → Option Interval
 typeInterval ty.Bool = some (record { low = pos 0; high = pos 1 })
 typeInterval (ty.Bits w) = bitsInterval w
 typeInterval ty.Integer = none
+
+-- is a inside Bits(w)? Bits are not negative, and Bits(128) have no other bound
+abbrev pub insideBits : ℕ → Interval → Bool
+insideBits w a = both (nonnegative a) (one (leb 128 w) (leZ (a .high) (pos (2 ^ w - 1))))
+
+-- is a inside a type?
+abbrev pub insideType : ScalarType → Interval → Bool
+insideType ty.Bool a = insideBits 1 a
+insideType (ty.Bits w) a = insideBits w a
+insideType ty.Integer a = true
 
 -- a as the range of a result in Bits(w), if it lies inside the type
 unfoldable pub filtered : ℕ → Interval → Option Interval

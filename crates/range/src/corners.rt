@@ -1,6 +1,6 @@
 // Product and quotient ranges: the results at the four corners, together.
 ghost use mathlib.Core.Path.{_≡_};
-ghost use Rattle.word.specs.Value.{intOf, valueOf};
+ghost use Rattle.word.specs.Value.{valueOf};
 ghost use Rattle.range.specs.Interval.{boundsOf, intervalOf, mulInterval, quotInterval, divisible, cornersOf};
 ghost use Rattle.range.specs.Step.{spanOf};
 use crate::MaybeRange;

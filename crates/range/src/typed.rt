@@ -2,7 +2,7 @@
 ghost use mathlib.Core.Path.{_≡_};
 ghost use Prim.Native.Nat.{min, _-_, _^_};
 ghost use Rattle.word.specs.Value.{val};
-ghost use Rattle.range.specs.Interval.{boundsOf, intervalOf, bitsInterval, typeInterval, filtered, signExtended};
+ghost use Rattle.range.specs.Interval.{boundsOf, intervalOf, bitsInterval, typeInterval, insideBits, insideType, filtered, signExtended};
 use crate::MaybeRange;
 use crate::Range;
 use crate::ScalarType;
@@ -52,6 +52,33 @@ pub fn type_range(ty: ScalarType) -> MaybeRange
 }
 
 impl Range {
+    // Does the range lie in Bits(width)? Bits are not negative, and Bits(128) have no other bound.
+    fn is_in_bits(self, width: u16) -> bool
+        ensures { λ r. ⌜ r ≡ insideBits width (boundsOf self) ⌝ }
+    {
+        let max = self.max;
+        if self.is_nonnegative() {
+            if width < 128 {
+                max.le(mask(width).as_signed())
+            } else {
+                true
+            }
+        } else {
+            false
+        }
+    }
+
+    // Does the range lie inside the type?
+    pub fn is_inside(self, ty: ScalarType) -> bool
+        ensures { λ r. ⌜ r ≡ insideType ty (boundsOf self) ⌝ }
+    {
+        match ty {
+            ScalarType::Bool => self.is_in_bits(1),
+            ScalarType::Bits(width) => self.is_in_bits(width),
+            ScalarType::Integer => true,
+        }
+    }
+
     // The range as that of a result in Bits(width), where it lies inside the type.
     pub fn filtered(self, width: u16) -> MaybeRange
         ensures { λ r. ⌜ intervalOf r ≡ filtered width (boundsOf self) ⌝ }
