@@ -1,21 +1,21 @@
 -- Each operator of the evaluators against SMT-LIB's on bit vectors of width w, with the exact condition under which both agree.
 -- Assumes nothing.
 use mathlib.Core.Path.{_≡_, refl, sym, ap, _∙_, subst}
-use mathlib.Core.Bool.{Bool, true, false}
-use mathlib.Core.Option.{some}
+use mathlib.Core.Bool.{Bool, true, false, not}
+use mathlib.Core.Option.{Option, none, some}
 use mathlib.Core.Logic.{_↔_, _⊎_, Iff·trans}
 use Prim.Native.Nat.{ℕ, _+_, _-_, _*_, _/_, _%_, _^_, _<_, _≤_}
 use native.Mathlib.Nat.{add-mod-mod, mod-eq-of-lt, div-one, sub-add-cancel, lt-of-le-of-lt, lt-of-lt-of-le, div-le-self, mod-le}
 use native.Mathlib.Omega.{arith}
 use borrow.Author.Tests.{ne-eqb}
 use lib.Bits.{and-lt, or-lt, xor-lt}
-use lib.Dec.{ltb}
+use lib.Dec.{eqb, ltb}
 use lib.IntN.{ℤ, pos, negℤ, _+ℤ_, _-ℤ_, _*ℤ_}
 use lib.Pow.{pow-pos, pow-mono, shr-le, not-mod}
 use lib.Signed.{ltZ, leZ, shrZ, quotZ, remZ}
 use Rattle.range.specs.declared.ScalarType.the-variants as ty
 use Rattle.word.specs.Value.{residue, signed, fits, fitted, only, quotient, remainder}
-use Rattle.word.proofs.Integer.{residue-add, residue-sub, residue-mul, residue-neg, residue-pos, residue-signed}
+use Rattle.word.proofs.Integer.{residue-lt, residue-add, residue-sub, residue-mul, residue-neg, residue-pos, residue-signed}
 use Rattle.evaluate.specs.declared.Unary.the-variants as un
 use Rattle.evaluate.specs.declared.Binary.the-variants as bi
 use Rattle.evaluate.specs.Evaluate.{evaluateUnary, evaluateBinary, mapped, reduced, fromBool, sliceValue, concatValue}
@@ -200,6 +200,38 @@ module _ (a b : ℕ) (l : a < 2 ^ 128) (m : b < 2 ^ 128) where
       ↔ ((b ≡ 0 → ⊥) × ((a ≡ 2 ^ 127) × (b ≡ 2 ^ 128 - 1) → ⊥))
   unfolding evaluateBinary remainder
   srem-agrees-128 = at-128 a b l m (remZ (signed 128 a) (signed 128 b)) (bvsrem 128 a b) (remainder-value 128 a b (omega arith) l m)
+
+-- a signed answer is the same for Integer and for Bits(128)
+whole : (o : Option ℤ) → mapped (reduced ty.Integer) (mapped (residue 128) o) ≡ mapped (reduced (ty.Bits 128)) (mapped (residue 128) o)
+whole none = refl
+whole (some z) = ap some (sym (mod-eq-of-lt (residue-lt 128 z)))
+
+module _ (a b : ℕ) (l : a < 2 ^ 128) (m : b < 2 ^ 128) where
+  pub integer-sdiv-agrees : (evaluateBinary bi.DivideSigned ty.Integer a b ≡ some (bvsdiv 128 a b))
+      ↔ ((b ≡ 0 → ⊥) × ((a ≡ 2 ^ 127) × (b ≡ 2 ^ 128 - 1) → ⊥))
+  unfolding evaluateBinary
+  integer-sdiv-agrees = rw (whole (quotient (signed 128 a) (signed 128 b))) (sdiv-agrees-128 a b l m)
+
+  pub integer-srem-agrees : (evaluateBinary bi.RemainderSigned ty.Integer a b ≡ some (bvsrem 128 a b))
+      ↔ ((b ≡ 0 → ⊥) × ((a ≡ 2 ^ 127) × (b ≡ 2 ^ 128 - 1) → ⊥))
+  unfolding evaluateBinary
+  integer-srem-agrees = rw (whole (remainder (signed 128 a) (signed 128 b))) (srem-agrees-128 a b l m)
+
+-- ---- `=`, `distinct` and `not` of SMT-LIB's core theory
+
+pub equal-agrees : (a b : ℕ) → evaluateBinary bi.Equal ty.Bool a b ≡ some (fromBool (eqb a b))
+unfolding evaluateBinary
+equal-agrees a b = refl
+
+pub not-equal-agrees : (a b : ℕ) → evaluateBinary bi.NotEqual ty.Bool a b ≡ some (fromBool (not (eqb a b)))
+unfolding evaluateBinary
+not-equal-agrees a b = refl
+
+-- a Bool is 1 or 0
+pub bool-not-agrees : (t : Bool) → evaluateUnary un.BoolNot (fromBool t) ≡ some (fromBool (not t))
+unfolding evaluateUnary
+bool-not-agrees true = refl
+bool-not-agrees false = refl
 
 -- ---- signed divisions below width 128, where the evaluator gives the unsigned ones
 
