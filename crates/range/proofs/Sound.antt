@@ -24,11 +24,11 @@ use Rattle.range.proofs.Order.{up, down, orders, sum-parts, neg-parts, 
 pub point-in : (z : ℤ) → z ∈ (point z)
 point-in z = record { above = ≤ℤ-refl z; below = ≤ℤ-refl z }
 
-tests : (s t : Bool) → both s t ≡ true → (s ≡ true) × (t ≡ true)
+pub tests : (s t : Bool) → both s t ≡ true → (s ≡ true) × (t ≡ true)
 tests true t e = (refl, e)
 tests false t e = (e, cc)
 
-either : (s t : Bool) → one s t ≡ true → (s ≡ true) ⊎ (t ≡ true)
+pub either : (s t : Bool) → one s t ≡ true → (s ≡ true) ⊎ (t ≡ true)
 either true t e = inl refl
 either false t e = inr e
 

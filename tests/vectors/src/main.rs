@@ -1,4 +1,7 @@
 // Writes test vectors for crates/word to FOLDER/stdin, and the answers of u128 and i128 to FOLDER/stdout.
+mod random;
+
+use random::Random;
 use std::{env, fs};
 use Kind::*;
 
@@ -142,39 +145,6 @@ fn signed(a: u128) -> i128 {
 
 fn pattern(a: i128) -> u128 {
     a as u128
-}
-
-// SplitMix64.
-struct Random(u64);
-
-impl Random {
-    fn next(&mut self) -> u64 {
-        self.0 = self.0.wrapping_add(0x9e37_79b9_7f4a_7c15);
-        let x = (self.0 ^ (self.0 >> 30)).wrapping_mul(0xbf58_476d_1ce4_e5b9);
-        let x = (x ^ (x >> 27)).wrapping_mul(0x94d0_49bb_1331_11eb);
-        x ^ (x >> 31)
-    }
-
-    // A number of a random bit length.
-    fn number(&mut self) -> u128 {
-        let bits = (u128::from(self.next()) << 64) | u128::from(self.next());
-        let length = self.next() % 129;
-        bits.unbounded_shr(128 - length as u32)
-    }
-
-    // A number or its complement.
-    fn operand(&mut self) -> u128 {
-        let number = self.number();
-        if self.next() % 2 == 0 {
-            number
-        } else {
-            !number
-        }
-    }
-
-    fn amount(&mut self) -> u128 {
-        u128::from(self.next() % 144)
-    }
 }
 
 // Operands whose sum or product is at or just past an edge, or whose quotient is exact or just not.
