@@ -1,0 +1,6 @@
+pub mod Codes
+pub mod Nodes
+pub mod Tests
+pub mod Grown
+pub mod Search
+pub mod Interned

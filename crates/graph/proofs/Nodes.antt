@@ -1,0 +1,152 @@
+-- Nodes: what a stored node reads, and that the others stay. Assumes nothing.
+use mathlib.Core.Path.{_≡_, refl, sym, ap, _∙_}
+use mathlib.Core.List.{List, _++_}
+use mathlib.Core.Logic.{⊎-elim}
+use mathlib.Core.Option.{Option}
+use Prim.Native.Nat.{ℕ, zero, suc, _+_, _-_, _<_, _≤_}
+use native.Mathlib.Omega.{arith}
+use borrow.Author.Tests.{eq-eqb, ne-eqb, lt-ltb}
+use lib.Dec.{lit<}
+use lib.ListN.{length, getD, set, take, drop, length-set, List·getD-append}
+use lib.Seq.{paste, getD-take, getD-drop, getD-append-add, getD-set-same, getD-set-other, length-paste, length-paste-head, length-take-le}
+use Rattle.word.proofs.Integer.{lt-or-ge}
+use Rattle.range.specs.Interval.{Interval}
+use Rattle.range.specs.declared.ScalarType.{ScalarType}
+use Rattle.graph.specs.Layout.{WORDS, FIRST, LIMIT, REGION, nodeStart, wordAt, countOf}
+use Rattle.graph.specs.Node.{Op, wordsOf, typeOf, typeAt, rangeOf, rangeAt, operationOf, operationAt, aliasAt, rangeFlag, rangeLow, rangeHigh, pair}
+use Rattle.graph.specs.Insert.{id, made, appended, follow}
+use Rattle.graph.proofs.Codes.{Stored, pair-back, type-back, range-back, operation-back}
+
+-- ---- the chain of aliases
+
+module _ (g : List ℕ) (n : ℕ) where
+  pub follow-end : (k : ℕ) → aliasAt g n ≡ 0 → follow g k n ≡ n
+  follow-end zero e = refl
+  follow-end (suc k) e = rw (eq-eqb (aliasAt g n) 0 e)
+
+  pub follow-on : (k : ℕ) → (aliasAt g n ≡ 0 → ⊥) → follow g (suc k) n ≡ follow g k (aliasAt g n - 1)
+  follow-on k h = rw (ne-eqb (aliasAt g n) 0 h)
+
+-- ---- words in the place of others
+
+module _ (d : List ℕ) (at : ℕ) (s : List ℕ) (n : ℕ) (hd : at + n ≤ length d) (hs : n ≤ length s) where
+  paste-in : (k : ℕ) → k < n → getD (paste d at s n) (at + k) 0 ≡ getD s k 0
+  paste-in k h =
+      let p : length (take at d ++ take n s) ≡ at + n = length-paste-head d at s n (omega arith) hs in
+      let q : length (take at d) ≡ at = length-take-le at d (omega arith) in
+      List·getD-append (take at d ++ take n s) (drop (at + n) d) 0 (at + k) (omega arith)
+      ∙ ap (λ (j : ℕ). getD (take at d ++ take n s) (j + k) 0) (sym q) ∙ getD-append-add (take at d) (take n s) k 0
+      ∙ getD-take n s k 0 h
+
+  paste-below : (i : ℕ) → i < at → getD (paste d at s n) i 0 ≡ getD d i 0
+  paste-below i h =
+      let p : length (take at d ++ take n s) ≡ at + n = length-paste-head d at s n (omega arith) hs in
+      let q : length (take at d) ≡ at = length-take-le at d (omega arith) in
+      List·getD-append (take at d ++ take n s) (drop (at + n) d) 0 i (omega arith)
+      ∙ List·getD-append (take at d) (take n s) 0 i (omega arith) ∙ getD-take at d i 0 h
+
+  paste-above : (i : ℕ) → at + n ≤ i → getD (paste d at s n) i 0 ≡ getD d i 0
+  paste-above i h =
+      let p : length (take at d ++ take n s) ≡ at + n = length-paste-head d at s n (omega arith) hs in
+      let e : i ≡ length (take at d ++ take n s) + (i - (at + n)) = omega arith in
+      let f : at + n + (i - (at + n)) ≡ i = omega arith in
+      ap (λ (j : ℕ). getD (paste d at s n) j 0) e ∙ getD-append-add (take at d ++ take n s) (drop (at + n) d) (i - (at + n)) 0
+      ∙ getD-drop (at + n) d (i - (at + n)) 0 ∙ ap (λ (j : ℕ). getD d j 0) f
+
+-- ---- a node stored in its place
+
+module _ (g ws : List ℕ) (n : ℕ) (size : length g ≡ REGION) (all : length ws ≡ WORDS) (room : n < LIMIT) where
+  inside : nodeStart n + WORDS ≤ length g
+  inside = omega arith
+
+  enough : WORDS ≤ length ws
+  enough = omega arith
+
+  pub stored-length : length (paste g (nodeStart n) ws WORDS) ≡ length g
+  stored-length = length-paste g (nodeStart n) ws WORDS inside enough
+
+  pub stored-head : (i : ℕ) → i < FIRST → getD (paste g (nodeStart n) ws WORDS) i 0 ≡ getD g i 0
+  stored-head i h = paste-below g (nodeStart n) ws WORDS inside enough i (omega arith)
+
+  pub stored-new : (k : ℕ) → k < WORDS → wordAt (paste g (nodeStart n) ws WORDS) n k ≡ getD ws k 0
+  stored-new k h = paste-in g (nodeStart n) ws WORDS inside enough k h
+
+  pub stored-other : (m k : ℕ) → (m ≡ n → ⊥) → k < WORDS → wordAt (paste g (nodeStart n) ws WORDS) m k ≡ wordAt g m k
+  stored-other m k d h =
+      ⊎-elim (λ (l : m < n). paste-below g (nodeStart n) ws WORDS inside enough (nodeStart m + k) (omega arith))
+      (λ (l : n ≤ m). paste-above g (nodeStart n) ws WORDS inside enough (nodeStart m + k) (omega arith))
+      (lt-or-ge m n)
+
+-- ---- a node at the end
+
+-- node n of a region holds a type, a range, an operation and an alias
+pub record Holds (g : List ℕ) (n : ℕ) (t : ScalarType) (r : Option Interval) (o : Op) (a : ℕ) : Type 0 where
+  pub type : typeAt g n ≡ t
+  pub range : rangeAt g n ≡ r
+  pub operation : operationAt g n ≡ o
+  pub alias : aliasAt g n ≡ a
+
+-- a node with the words f holds what they stand for
+pub reading : (g : List ℕ) (n : ℕ) (f : ℕ → ℕ) → ((k : ℕ) → k < WORDS → wordAt g n k ≡ f k)
+    → Holds g n (typeOf (f 0) (f 1)) (rangeOf (f 2) (pair (f 3) (f 4)) (pair (f 5) (f 6))) (operationOf (f 7) (f 8) (f 9) (f 10)) (f 11)
+reading g n f e = record {
+  type = λ i. typeOf (e 0 (lit< tt) i) (e 1 (lit< tt) i);
+  range = λ i. rangeOf (e 2 (lit< tt) i) (pair (e 3 (lit< tt) i) (e 4 (lit< tt) i)) (pair (e 5 (lit< tt) i) (e 6 (lit< tt) i));
+  operation = λ i. operationOf (e 7 (lit< tt) i) (e 8 (lit< tt) i) (e 9 (lit< tt) i) (e 10 (lit< tt) i);
+  alias = e 11 (lit< tt);
+}
+
+-- a node with the words of a type, a range and an operation holds them
+pub words-back : (g : List ℕ) (n : ℕ) (t : ScalarType) (r : Option Interval) (o : Op) → Stored t r o
+    → ((k : ℕ) → k < WORDS → wordAt g n k ≡ getD (wordsOf t r o) k 0) → Holds g n t r o 0
+unfolding wordsOf
+words-back g n t r o s e =
+    let h = reading g n (λ k. getD (wordsOf t r o) k 0) e in record {
+      type = h .type ∙ type-back t (s .width);
+      range =
+          h .range ∙ (λ i. rangeOf (rangeFlag r) (pair-back (rangeLow r) i) (pair-back (rangeHigh r) i))
+          ∙ range-back r (s .low) (s .high);
+      operation = h .operation ∙ operation-back o (s .offset) (s .parameter);
+      alias = h .alias;
+    }
+
+-- there are as many words as a node has
+pub length-words : (t : ScalarType) (r : Option Interval) (o : Op) → length (wordsOf t r o) ≡ WORDS
+unfolding wordsOf
+length-words t r o = refl
+
+-- with room there is a new node
+pub appended-made : (g ws : List ℕ) → countOf g < LIMIT
+    → appended g ws ≡ made (id (countOf g)) (set (paste g (nodeStart (countOf g)) ws WORDS) 0 (countOf g + 1))
+unfolding appended
+appended-made g ws room = rw (lt-ltb (countOf g) LIMIT room)
+
+module _ (g ws : List ℕ) (size : length g ≡ REGION) (all : length ws ≡ WORDS) (room : countOf g < LIMIT) where
+  pub appended-length : length (appended g ws .words) ≡ REGION
+  appended-length =
+      rw (appended-made g ws room)
+      (length-set (paste g (nodeStart (countOf g)) ws WORDS) 0 (countOf g + 1) ∙ stored-length g ws (countOf g) size all room ∙ size)
+
+  pub appended-count : countOf (appended g ws .words) ≡ countOf g + 1
+  appended-count =
+      let l : length (paste g (nodeStart (countOf g)) ws WORDS) ≡ length g = stored-length g ws (countOf g) size all room in
+      rw (appended-made g ws room) (getD-set-same (paste g (nodeStart (countOf g)) ws WORDS) 0 (countOf g + 1) 0 (omega arith))
+
+  -- the count stands before every node
+  past-count : (m k : ℕ) → wordAt (appended g ws .words) m k ≡ wordAt (paste g (nodeStart (countOf g)) ws WORDS) m k
+  past-count m k =
+      rw (appended-made g ws room) (getD-set-other (paste g (nodeStart (countOf g)) ws WORDS) 0 (nodeStart m + k) (countOf g + 1) 0 (λ e. omega arith))
+
+  pub appended-word : (k : ℕ) → k < WORDS → wordAt (appended g ws .words) (countOf g) k ≡ getD ws k 0
+  appended-word k h = past-count (countOf g) k ∙ stored-new g ws (countOf g) size all room k h
+
+  -- the other nodes stay
+  pub appended-other : (n : ℕ) → (n ≡ countOf g → ⊥) → Holds (appended g ws .words) n (typeAt g n) (rangeAt g n) (operationAt g n) (aliasAt g n)
+  appended-other n d =
+      reading (appended g ws .words) n (wordAt g n) (λ k h. past-count n k ∙ stored-other g ws (countOf g) size all room n k d h)
+
+-- the new node
+pub appended-new : (g : List ℕ) (t : ScalarType) (r : Option Interval) (o : Op) → length g ≡ REGION → countOf g < LIMIT → Stored t r o
+    → Holds (appended g (wordsOf t r o) .words) (countOf g) t r o 0
+appended-new g t r o size room s =
+    words-back (appended g (wordsOf t r o) .words) (countOf g) t r o s (appended-word g (wordsOf t r o) size (length-words t r o) room)

@@ -1,0 +1,65 @@
+-- The tests of a node's words by their codes, and one turn of each loop over the nodes and the words. Assumes nothing.
+use mathlib.Core.Path.{_≡_, refl}
+use mathlib.Core.Bool.{Bool, true, false, not, cond}
+use mathlib.Core.List.{List}
+use mathlib.Core.Logic.{⊎-elim}
+use Prim.Native.Nat.{ℕ, zero, suc, _+_, _<_, _≤_}
+use native.Mathlib.Numerals.{add-one}
+use native.Mathlib.Omega.{arith}
+use borrow.Author.Tests.{eq-eqb, ne-eqb, lt-ltb, le-ltb}
+use lib.Dec.{ltb, eqb}
+use lib.ListN.{length, getD, drop, drop-of-length-le}
+use lib.Seq.{drop-cons}
+use Rattle.word.proofs.Integer.{lt-or-ge}
+use Rattle.range.specs.Interval.{both}
+use Rattle.graph.specs.WellFormed.{areFields, isOperation, isNode, areNodes, areZeros}
+
+-- from code 10 on only the operators are left
+pub operators : (n code x y z : ℕ) → 10 ≤ code
+    → isOperation n code x y z
+    ≡ cond (ltb code 13) (areFields x n y 1 z 1)
+    (cond (ltb code 17) (areFields x n y 1 z 129) (cond (ltb code 20) false (cond (ltb code 39) (areFields x n y n z 1) false)))
+operators n code x y z h =
+    simp (
+      ne-eqb code 0 (λ e. omega arith),
+      ne-eqb code 1 (λ e. omega arith),
+      ne-eqb code 2 (λ e. omega arith),
+      ne-eqb code 3 (λ e. omega arith),
+      ne-eqb code 4 (λ e. omega arith),
+      ne-eqb code 5 (λ e. omega arith),
+      le-ltb code 10 h,
+    )
+
+-- a number is 0 if it is not above 0
+pub zero-test : (n : ℕ) → not (ltb 0 n) ≡ eqb n 0
+zero-test zero = refl
+zero-test (suc n) = rw (lt-ltb 0 (suc n) (omega arith), ne-eqb (suc n) 0 (λ e. omega arith))
+
+-- ---- are_nodes: one node more, and a node that fails
+
+both-false : (t : Bool) → both t false ≡ false
+both-false true = refl
+both-false false = refl
+
+module _ (g : List ℕ) (count n : ℕ) where
+  pub nodes-on : areNodes g count n ≡ true → isNode g count n ≡ true → areNodes g count (n + 1) ≡ true
+  nodes-on e f = rw (add-one n, e, f)
+
+  pub nodes-off : isNode g count n ≡ false → (m : ℕ) → n < m → areNodes g count m ≡ false
+  nodes-off e zero h = absurd (omega arith)
+  nodes-off e (suc m) h =
+      ⊎-elim (λ l. rw (nodes-off e m l))
+      (λ l. let q : m ≡ n = omega arith in rw (q, e) (both-false (areNodes g count n)))
+      (lt-or-ge n m)
+
+-- ---- are_zeros: a zero passed, another word, and the end
+
+module _ (g : List ℕ) (at : ℕ) where
+  pub zeros-on : at < length g → getD g at 0 ≡ 0 → areZeros (drop at g) ≡ areZeros (drop (at + 1) g)
+  zeros-on h e = rw (drop-cons g at 0 h, eq-eqb (getD g at 0) 0 e, add-one at)
+
+  pub zeros-off : at < length g → (getD g at 0 ≡ 0 → ⊥) → areZeros (drop at g) ≡ false
+  zeros-off h e = rw (drop-cons g at 0 h, ne-eqb (getD g at 0) 0 e)
+
+  pub zeros-end : length g ≤ at → areZeros (drop at g) ≡ true
+  zeros-end h = rw (drop-of-length-le g h)

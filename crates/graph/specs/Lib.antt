@@ -1,0 +1,4 @@
+pub mod Layout
+pub mod Node
+pub mod Insert
+pub mod WellFormed

@@ -1,0 +1,128 @@
+// Interning: the lowest node with the same key, or a new node.
+ghost use mathlib.Core.Path.{_≡_};
+ghost use Prim.Native.Nat.{min, max, _+_, _-_, _*_, _<_, _≤_};
+ghost use lib.ListN.{length, take};
+ghost use lib.Seq.{paste};
+ghost use Rattle.range.specs.Interval.{intervalOf};
+ghost use Rattle.graph.specs.Layout.{REGION, WORDS, KEY, FIRST, LIMIT, countOf};
+ghost use Rattle.graph.specs.Node.{opOf};
+ghost use Rattle.graph.specs.Insert.{sameWords, sameKey, lowest, foundOf, start, made, builtOf, inserted, appended};
+use crate::Built;
+use crate::Found;
+use crate::NodeId;
+use crate::Operation;
+use crate::encode::words_of;
+use crate::layout::FIRST;
+use crate::layout::KEY;
+use crate::layout::LIMIT;
+use crate::layout::SIZE;
+use crate::layout::WORDS;
+use crate::layout::count;
+use crate::read::resolve;
+use range::MaybeRange;
+use range::ScalarType;
+
+// Are the words from `at` on the node's key?
+fn same_key(g: &[u64], at: usize, words: &[u64; SIZE]) -> bool
+    requires { ⌜ (at + KEY ≤ length (now g)) × (length (now words) ≡ WORDS) ⌝ }
+    ensures { λ r. ⌜ r ≡ sameWords (now (g .entry)) at (take KEY (now (words .entry))) ⌝ }
+{
+    let mut k = 0;
+    while k < KEY {
+        if g[at + k] != words[k] {
+            return false;
+        }
+        k += 1;
+    }
+    true
+}
+
+// The lowest node from `from` on, below the count, with this key.
+fn find(g: &[u64], from: u64, words: &[u64; SIZE]) -> Found
+    requires { ⌜ (length (now g) ≡ REGION) × (length (now words) ≡ WORDS) ⌝ }
+    ensures { λ r. ⌜ foundOf r ≡ lowest (sameKey (now (g .entry)) (now (words .entry))) from (min (countOf (now (g .entry))) LIMIT - from) ⌝ }
+{
+    let nodes = count(g);
+    let end = if nodes < LIMIT { nodes } else { LIMIT };
+    let mut node = from;
+    while node < end {
+        let at = (FIRST + WORDS * node) as usize;
+        if same_key(g, at, words) {
+            return Found::At(node);
+        }
+        node += 1;
+    }
+    Found::Nothing
+}
+
+// Puts the words of a node at `at`.
+fn store(g: &mut [u64], at: usize, words: &[u64; SIZE])
+    requires { ⌜ (at + WORDS ≤ length (now g)) × (length (now words) ≡ WORDS) ⌝ }
+    ensures { λ _. ⌜ now (g .exit) ≡ paste (now (g .entry)) at (now (words .entry)) WORDS ⌝ }
+{
+    let mut k = 0;
+    while k < SIZE {
+        g[at + k] = words[k];
+        k += 1;
+    }
+}
+
+// A new node, if there is room.
+fn append(g: &mut [u64], words: &[u64; SIZE]) -> Built
+    requires { ⌜ (length (now g) ≡ REGION) × (length (now words) ≡ WORDS) ⌝ }
+    ensures { λ r. ⌜ made (builtOf r) (now (g .exit)) ≡ appended (now (g .entry)) (now (words .entry)) ⌝ }
+{
+    let node = count(g);
+    if node < LIMIT {
+        store(g, (FIRST + WORDS * node) as usize, words);
+        g[0] = node + 1;
+        Built::Id(NodeId(node))
+    } else {
+        Built::Room
+    }
+}
+
+// The lowest id that a node with this operation can have: past its operands.
+fn lowest_id(operation: Operation) -> u64
+    ensures { λ r. ⌜ r ≡ min (start (opOf operation)) LIMIT ⌝ }
+{
+    match operation {
+        Operation::Constant(_) => 0,
+        Operation::Input(_) => 0,
+        Operation::Refine(id) => past(id.0, 0),
+        Operation::Effect(_) => 0,
+        Operation::Slice {
+            value,
+            offset: _,
+            width: _,
+        } => past(value.0, 0),
+        Operation::Concat {
+            high,
+            low,
+            low_width: _,
+        } => past(high.0, low.0),
+        Operation::Unary(_, id) => past(id.0, 0),
+        Operation::Binary(_, left, right) => past(left.0, right.0),
+    }
+}
+
+// One past the larger of two ids, at most LIMIT.
+fn past(a: u64, b: u64) -> u64
+    ensures { λ r. ⌜ r ≡ min (max a b + 1) LIMIT ⌝ }
+{
+    let larger = if a < b { b } else { a };
+    if larger < LIMIT { larger + 1 } else { LIMIT }
+}
+
+// The resolved id of the lowest node with this type, range and operation, or of a new one.
+pub fn insert(g: &mut [u64], ty: ScalarType, range: MaybeRange, operation: Operation) -> Built
+    requires { ⌜ length (now g) ≡ REGION ⌝ }
+    ensures { λ r. ⌜ made (builtOf r) (now (g .exit)) ≡ inserted (now (g .entry)) ty (intervalOf range) (opOf operation) ⌝ }
+{
+    let words = words_of(ty, range, operation);
+    let found = find(g, lowest_id(operation), &words);
+    match found {
+        Found::At(node) => Built::Id(resolve(g, NodeId(node))),
+        Found::Nothing => append(g, &words),
+    }
+}

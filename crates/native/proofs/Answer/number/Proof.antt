@@ -1,0 +1,41 @@
+-- `Answer::number` meets its contract: one case for each answer.
+use borrow.Author.Needs.{needs}
+use Rattle.native.proofs.Answer.number.Statement.{statement}
+use Rattle.native.proofs.Answer.number.Tie as tie
+
+enum-known-self : tie.Need-enum-known-self
+enum-known-self c = search needs
+
+enum-told : tie.Need-enum-told
+enum-told c = search needs
+
+enum-known-self-2 : tie.Need-enum-known-self-2
+enum-known-self-2 c = search needs
+
+number-requires : tie.Need-number-requires
+number-requires c κs = search needs
+
+sub-result : tie.Need-sub-result
+sub-result c = search needs
+
+returns : tie.Need-returns
+returns c = search needs
+
+returns-2 : tie.Need-returns-2
+returns-2 c = search needs
+
+returns-3 : tie.Need-returns-3
+returns-3 c = simp (c .before .before .self2 .given .1, ← c .number .ensures)
+
+pub number-spec : {M : Type 1} → statement M
+number-spec =
+    tie.close
+    (tie.spec
+    enum-known-self
+    enum-told
+    enum-known-self-2
+    number-requires
+    sub-result
+    returns
+    returns-2
+    returns-3)

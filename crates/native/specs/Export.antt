@@ -1,0 +1,65 @@
+-- The exported calls: types by code and width, answers by number.
+use mathlib.Core.Bool.{cond}
+use mathlib.Core.List.{List, [], _∷_}
+use mathlib.Core.Option.{Option, none, some}
+use Prim.Native.Nat.{ℕ, min, _-_, _/_, _%_, _^_}
+use lib.Dec.{eqb}
+use lib.ListN.{length}
+use Rattle.range.specs.Interval.{Interval}
+use Rattle.range.specs.declared.ScalarType.{ScalarType}
+use Rattle.range.specs.declared.ScalarType.the-variants as ty
+use Rattle.evaluate.specs.Answer as evaluate
+use Rattle.graph.specs.WellFormed.{isGraph}
+use Rattle.native.specs.Call.{Response, nothing, refused, answerNumber, Called, constantCall, inputCall, effectCall, literalCall}
+use Rattle.native.specs.declared.MaybeType.{MaybeType}
+use Rattle.native.specs.declared.MaybeType.the-variants as named
+
+abbrev pub typeOf : MaybeType → Option ScalarType
+typeOf (named.Some t) = some t
+typeOf named.None = none
+
+-- 0 Bool and 2 Integer, both of width 0, and 1 Bits; a width past a u16 stays past 128
+abbrev pub typeByCode : ℕ → ℕ → Option ScalarType
+typeByCode code width =
+    cond (eqb code 0) (cond (eqb width 0) (some ty.Bool) none)
+    (cond (eqb code 1) (some (ty.Bits (min width (2 ^ 16 - 1))))
+    (cond (eqb code 2) (cond (eqb width 0) (some ty.Integer) none) none))
+
+-- a number, and the words after the call
+pub record Exported : Type 0 where
+  pub number : ℕ
+  pub words : List ℕ
+
+abbrev pub exported : ℕ → List ℕ → Exported
+exported n g = record { number = n; words = g }
+
+abbrev pub numbered : Called → Exported
+numbered c = exported (answerNumber (c .answer)) (c .words)
+
+-- a type that there is not: refused 1, or 4
+abbrev pub noType : List ℕ → Response
+noType g = cond (isGraph g) (refused 4) (refused 1)
+
+-- a call with a type, if the code names one
+abbrev pub withType : List ℕ → Option ScalarType → (ScalarType → Called) → Exported
+withType g none f = exported (answerNumber (noType g)) g
+withType g (some t) f = numbered (f t)
+
+unfoldable pub constantExport : List ℕ → ℕ → ℕ → ℕ → Exported
+constantExport g code width v = withType g (typeByCode code width) (λ t. constantCall g t v)
+
+unfoldable pub inputExport : List ℕ → ℕ → ℕ → ℕ → Option Interval → Exported
+inputExport g i code width r = withType g (typeByCode code width) (λ t. inputCall g i t r)
+
+unfoldable pub effectExport : List ℕ → ℕ → ℕ → ℕ → Exported
+effectExport g i code width = withType g (typeByCode code width) (λ t. effectCall g i t)
+
+-- a value goes into a slice of two words, low half first, and the answer is 1; another length is refused 6
+abbrev pub written : evaluate.Outcome → List ℕ → Exported
+written (evaluate.value v) out =
+    cond (eqb (length out) 2) (exported 1 (v % 2 ^ 64 ∷ v / 2 ^ 64 ∷ [])) (exported (answerNumber (refused 6)) out)
+written evaluate.nothing out = exported (answerNumber nothing) out
+written (evaluate.refused k) out = exported (answerNumber (refused k)) out
+
+unfoldable pub literalExport : List ℕ → ℕ → List ℕ → Exported
+literalExport g n out = written (literalCall g n) out

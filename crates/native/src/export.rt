@@ -1,0 +1,168 @@
+// The calls for C and Rust: numbers and slices alone. A type is its code and width, an answer its number.
+ghost use mathlib.Core.Path.{_≡_};
+ghost use Prim.Native.Nat.{min, _-_, _^_};
+ghost use Rattle.word.specs.Value.{val};
+ghost use Rattle.range.specs.Interval.{intervalOf};
+ghost use Rattle.evaluate.specs.Evaluate.{fromBool};
+ghost use Rattle.graph.specs.Node.{pair, rangeOf};
+ghost use Rattle.graph.specs.WellFormed.{isGraph};
+ghost use Rattle.native.specs.Call.{answerNumber, resolveCall};
+ghost use Rattle.native.specs.Export.{typeOf, typeByCode, noType, exported, constantExport, inputExport, effectExport, literalExport};
+use crate::Answer;
+use crate::MaybeType;
+use crate::declare;
+use crate::look;
+use evaluate::Evaluated;
+use evaluate::Refusal;
+use graph::EffectId;
+use graph::InputId;
+use graph::NodeId;
+use graph::well_formed::is_graph;
+use range::MaybeRange;
+use range::Range;
+use range::ScalarType;
+use word::Word;
+
+// A width as a u16; a larger one stays above 128.
+fn clamped_width(width: u64) -> u16
+    ensures { λ r. ⌜ r ≡ min width (2 ^ 16 - 1) ⌝ }
+{
+    if width < 65535 {
+        (width % 65536) as u16
+    } else {
+        65535
+    }
+}
+
+fn type_by_code(code: u64, width: u64) -> MaybeType
+    ensures { λ r. ⌜ typeOf r ≡ typeByCode code width ⌝ }
+{
+    match code {
+        0 => {
+            if width == 0 {
+                MaybeType::Some(ScalarType::Bool)
+            } else {
+                MaybeType::None
+            }
+        }
+        1 => MaybeType::Some(ScalarType::Bits(clamped_width(width))),
+        2 => {
+            if width == 0 {
+                MaybeType::Some(ScalarType::Integer)
+            } else {
+                MaybeType::None
+            }
+        }
+        _ => MaybeType::None,
+    }
+}
+
+// The answer to a type that there is not: question 1, then 4.
+fn no_type(g: &[u64]) -> u64
+    ensures { λ r. ⌜ r ≡ answerNumber (noType (now (g .entry))) ⌝ }
+{
+    if is_graph(g) {
+        Answer::Refused(Refusal::Typing).number()
+    } else {
+        Answer::Refused(Refusal::Graph).number()
+    }
+}
+
+#[no_mangle]
+pub extern "C" fn scalars_constant(g: &mut [u64], code: u64, width: u64, low: u64, high: u64) -> u64
+    ensures { λ r. ⌜ exported r (now (g .exit)) ≡ constantExport (now (g .entry)) code width (pair low high) ⌝ }
+{
+    let named = type_by_code(code, width);
+    let MaybeType::Some(ty) = named else {
+        return no_type(g);
+    };
+    declare::constant(g, ty, Word { lo: low, hi: high }).number()
+}
+
+// The range by its words; a flag of 0 says that there is none.
+fn range_by_words(flag: u64, min: Word, max: Word) -> MaybeRange
+    ensures { λ r. ⌜ intervalOf r ≡ rangeOf flag (val min) (val max) ⌝ }
+{
+    if flag == 0 {
+        return MaybeRange::None;
+    }
+    MaybeRange::Some(Range {
+        min: min.as_signed(),
+        max: max.as_signed(),
+    })
+}
+
+#[no_mangle]
+pub extern "C" fn scalars_input(
+    g: &mut [u64],
+    number: u64,
+    code: u64,
+    width: u64,
+    flag: u64,
+    min_low: u64,
+    min_high: u64,
+    max_low: u64,
+    max_high: u64,
+) -> u64
+    ensures { λ r. ⌜ exported r (now (g .exit)) ≡ inputExport (now (g .entry)) number code width (rangeOf flag (pair «min_low» «min_high») (pair «max_low» «max_high»)) ⌝ }
+{
+    let named = type_by_code(code, width);
+    let MaybeType::Some(ty) = named else {
+        return no_type(g);
+    };
+    let min = Word {
+        lo: min_low,
+        hi: min_high,
+    };
+    let max = Word {
+        lo: max_low,
+        hi: max_high,
+    };
+    let range = range_by_words(flag, min, max);
+    declare::input(g, InputId(number), ty, range).number()
+}
+
+#[no_mangle]
+pub extern "C" fn scalars_effect(g: &mut [u64], number: u64, code: u64, width: u64) -> u64
+    ensures { λ r. ⌜ exported r (now (g .exit)) ≡ effectExport (now (g .entry)) number code width ⌝ }
+{
+    let named = type_by_code(code, width);
+    let MaybeType::Some(ty) = named else {
+        return no_type(g);
+    };
+    declare::effect(g, EffectId(number), ty).number()
+}
+
+#[no_mangle]
+pub extern "C" fn scalars_resolve(g: &[u64], id: u64) -> u64
+    ensures { λ r. ⌜ r ≡ answerNumber (resolveCall (now (g .entry)) id) ⌝ }
+{
+    look::resolve(g, NodeId(id)).number()
+}
+
+// Is the node a constant? 1 and its two halves in `out`; None; or a refusal. Another length of `out` is refused 6.
+#[no_mangle]
+pub extern "C" fn scalars_literal(g: &[u64], id: u64, out: &mut [u64]) -> u64
+    ensures { λ r. ⌜ exported r (now (out .exit)) ≡ literalExport (now (g .entry)) id (now (out .entry)) ⌝ }
+{
+    let found = look::literal(g, NodeId(id));
+    match found {
+        Evaluated::Value(value) => {
+            if out.len() != 2 {
+                return Answer::Refused(Refusal::Keep).number();
+            }
+            out[0] = value.lo;
+            out[1] = value.hi;
+            1
+        }
+        Evaluated::None => Answer::None.number(),
+        Evaluated::Refused(refusal) => Answer::Refused(refusal).number(),
+    }
+}
+
+#[no_mangle]
+pub extern "C" fn scalars_is_graph(g: &[u64]) -> u64
+    ensures { λ r. ⌜ r ≡ fromBool (isGraph (now (g .entry))) ⌝ }
+{
+    if is_graph(g) { 1 } else { 0 }
+}

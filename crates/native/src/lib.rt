@@ -1,0 +1,50 @@
+// The calls: every question in order, then the work. A refusal leaves every lent word as it was.
+pub mod declare;
+pub mod export;
+pub mod look;
+
+ghost use mathlib.Core.Path.{_≡_};
+ghost use Rattle.graph.specs.Insert.{builtOf};
+ghost use Rattle.native.specs.Call.{answerOf, settled, answerNumber};
+use evaluate::Refusal;
+use graph::Built;
+use graph::NodeId;
+use range::ScalarType;
+
+// A node, the Rust's None, or a refusal.
+pub enum Answer {
+    Id(NodeId),
+    None,
+    Refused(Refusal),
+}
+
+// A type by its code, if there is one.
+pub enum MaybeType {
+    Some(ScalarType),
+    None,
+}
+
+impl Answer {
+    // The answer as one number: an id is itself; None and the refusals count down from the largest.
+    pub fn number(self) -> u64
+        ensures { λ r. ⌜ r ≡ answerNumber (answerOf self) ⌝ }
+    {
+        match self {
+            Answer::Id(id) => id.0,
+            Answer::None => u64::MAX,
+            Answer::Refused(refusal) => u64::MAX - refusal.number(),
+        }
+    }
+}
+
+// What a builder's answer is to a caller.
+pub(crate) fn answer_to(built: Built) -> Answer
+    ensures { λ r. ⌜ answerOf r ≡ settled (builtOf built) ⌝ }
+{
+    match built {
+        Built::Id(id) => Answer::Id(id),
+        Built::None => Answer::None,
+        Built::Room => Answer::Refused(Refusal::Room),
+        Built::Units => Answer::Refused(Refusal::Units),
+    }
+}
