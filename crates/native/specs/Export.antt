@@ -10,7 +10,7 @@ use Rattle.range.specs.declared.ScalarType.{ScalarType}
 use Rattle.range.specs.declared.ScalarType.the-variants as ty
 use Rattle.evaluate.specs.Answer as evaluate
 use Rattle.graph.specs.WellFormed.{isGraph}
-use Rattle.native.specs.Call.{Response, nothing, refused, answerNumber, Called, constantCall, inputCall, effectCall, literalCall}
+use Rattle.native.specs.Call.{nothing, refused, answerNumber, Called, constantInGraph, inputInGraph, effectInGraph, literalCall}
 use Rattle.native.specs.declared.MaybeType.{MaybeType}
 use Rattle.native.specs.declared.MaybeType.the-variants as named
 
@@ -36,23 +36,23 @@ exported n g = record { number = n; words = g }
 abbrev pub numbered : Called → Exported
 numbered c = exported (answerNumber (c .answer)) (c .words)
 
--- a type that there is not: refused 1, or 4
-abbrev pub noType : List ℕ → Response
-noType g = cond (isGraph g) (refused 4) (refused 1)
+-- question 1 of an exported call
+abbrev pub asked : List ℕ → Exported → Exported
+asked g e = cond (isGraph g) e (exported (answerNumber (refused 1)) g)
 
--- a call with a type, if the code names one
+-- a call with a type; a code that names none is refused 4
 abbrev pub withType : List ℕ → Option ScalarType → (ScalarType → Called) → Exported
-withType g none f = exported (answerNumber (noType g)) g
+withType g none f = exported (answerNumber (refused 4)) g
 withType g (some t) f = numbered (f t)
 
-unfoldable pub constantExport : List ℕ → ℕ → ℕ → ℕ → Exported
-constantExport g code width v = withType g (typeByCode code width) (λ t. constantCall g t v)
+unfoldable pub constantByCode : List ℕ → ℕ → ℕ → ℕ → Exported
+constantByCode g code width v = withType g (typeByCode code width) (λ t. constantInGraph g t v)
 
-unfoldable pub inputExport : List ℕ → ℕ → ℕ → ℕ → Option Interval → Exported
-inputExport g i code width r = withType g (typeByCode code width) (λ t. inputCall g i t r)
+unfoldable pub inputByCode : List ℕ → ℕ → ℕ → ℕ → Option Interval → Exported
+inputByCode g i code width r = withType g (typeByCode code width) (λ t. inputInGraph g i t r)
 
-unfoldable pub effectExport : List ℕ → ℕ → ℕ → ℕ → Exported
-effectExport g i code width = withType g (typeByCode code width) (λ t. effectCall g i t)
+unfoldable pub effectByCode : List ℕ → ℕ → ℕ → ℕ → Exported
+effectByCode g i code width = withType g (typeByCode code width) (λ t. effectInGraph g i t)
 
 -- a value goes into a slice of two words, low half first, and the answer is 1; another length is refused 6
 abbrev pub written : evaluate.Outcome → List ℕ → Exported

@@ -1,4 +1,5 @@
 // The calls for C and Rust: numbers and slices alone. A type is its code and width, an answer its number.
+ghost use mathlib.Core.Bool.{true};
 ghost use mathlib.Core.Path.{_≡_};
 ghost use Prim.Native.Nat.{min, _-_, _^_};
 ghost use Rattle.word.specs.Value.{val};
@@ -7,7 +8,7 @@ ghost use Rattle.evaluate.specs.Evaluate.{fromBool};
 ghost use Rattle.graph.specs.Node.{pair, rangeOf};
 ghost use Rattle.graph.specs.WellFormed.{isGraph};
 ghost use Rattle.native.specs.Call.{answerNumber, resolveCall};
-ghost use Rattle.native.specs.Export.{typeOf, typeByCode, noType, exported, constantExport, inputExport, effectExport, literalExport};
+ghost use Rattle.native.specs.Export.{typeOf, typeByCode, exported, asked, constantByCode, inputByCode, effectByCode, literalExport};
 use crate::Answer;
 use crate::MaybeType;
 use crate::declare;
@@ -57,26 +58,33 @@ fn type_by_code(code: u64, width: u64) -> MaybeType
     }
 }
 
-// The answer to a type that there is not: question 1, then 4.
-fn no_type(g: &[u64]) -> u64
-    ensures { λ r. ⌜ r ≡ answerNumber (noType (now (g .entry))) ⌝ }
+#[no_mangle]
+pub extern "C" fn scalars_constant_in_graph(
+    g: &mut [u64],
+    code: u64,
+    width: u64,
+    low: u64,
+    high: u64,
+) -> u64
+    requires { ⌜ isGraph (now g) ≡ true ⌝ }
+    ensures { λ r. ⌜ exported r (now (g .exit)) ≡ constantByCode (now (g .entry)) code width (pair low high) ⌝ }
 {
-    if is_graph(g) {
-        Answer::Refused(Refusal::Typing).number()
-    } else {
-        Answer::Refused(Refusal::Graph).number()
-    }
+    let named = type_by_code(code, width);
+    let MaybeType::Some(ty) = named else {
+        return Answer::Refused(Refusal::Typing).number();
+    };
+    declare::constant_in_graph(g, ty, Word { lo: low, hi: high }).number()
 }
 
 #[no_mangle]
 pub extern "C" fn scalars_constant(g: &mut [u64], code: u64, width: u64, low: u64, high: u64) -> u64
-    ensures { λ r. ⌜ exported r (now (g .exit)) ≡ constantExport (now (g .entry)) code width (pair low high) ⌝ }
+    ensures { λ r. ⌜ exported r (now (g .exit)) ≡ asked (now (g .entry)) (constantByCode (now (g .entry)) code width (pair low high)) ⌝ }
 {
-    let named = type_by_code(code, width);
-    let MaybeType::Some(ty) = named else {
-        return no_type(g);
-    };
-    declare::constant(g, ty, Word { lo: low, hi: high }).number()
+    if is_graph(g) {
+        scalars_constant_in_graph(g, code, width, low, high)
+    } else {
+        Answer::Refused(Refusal::Graph).number()
+    }
 }
 
 // The range by its words; a flag of 0 says that there is none.
@@ -93,6 +101,37 @@ fn range_by_words(flag: u64, min: Word, max: Word) -> MaybeRange
 }
 
 #[no_mangle]
+pub extern "C" fn scalars_input_in_graph(
+    g: &mut [u64],
+    number: u64,
+    code: u64,
+    width: u64,
+    flag: u64,
+    min_low: u64,
+    min_high: u64,
+    max_low: u64,
+    max_high: u64,
+) -> u64
+    requires { ⌜ isGraph (now g) ≡ true ⌝ }
+    ensures { λ r. ⌜ exported r (now (g .exit)) ≡ inputByCode (now (g .entry)) number code width (rangeOf flag (pair «min_low» «min_high») (pair «max_low» «max_high»)) ⌝ }
+{
+    let named = type_by_code(code, width);
+    let MaybeType::Some(ty) = named else {
+        return Answer::Refused(Refusal::Typing).number();
+    };
+    let min = Word {
+        lo: min_low,
+        hi: min_high,
+    };
+    let max = Word {
+        lo: max_low,
+        hi: max_high,
+    };
+    let range = range_by_words(flag, min, max);
+    declare::input_in_graph(g, InputId(number), ty, range).number()
+}
+
+#[no_mangle]
 pub extern "C" fn scalars_input(
     g: &mut [u64],
     number: u64,
@@ -104,33 +143,46 @@ pub extern "C" fn scalars_input(
     max_low: u64,
     max_high: u64,
 ) -> u64
-    ensures { λ r. ⌜ exported r (now (g .exit)) ≡ inputExport (now (g .entry)) number code width (rangeOf flag (pair «min_low» «min_high») (pair «max_low» «max_high»)) ⌝ }
+    ensures { λ r. ⌜ exported r (now (g .exit)) ≡ asked (now (g .entry)) (inputByCode (now (g .entry)) number code width (rangeOf flag (pair «min_low» «min_high») (pair «max_low» «max_high»))) ⌝ }
+{
+    if is_graph(g) {
+        scalars_input_in_graph(
+            g,
+            number,
+            code,
+            width,
+            flag,
+            min_low,
+            min_high,
+            max_low,
+            max_high,
+        )
+    } else {
+        Answer::Refused(Refusal::Graph).number()
+    }
+}
+
+#[no_mangle]
+pub extern "C" fn scalars_effect_in_graph(g: &mut [u64], number: u64, code: u64, width: u64) -> u64
+    requires { ⌜ isGraph (now g) ≡ true ⌝ }
+    ensures { λ r. ⌜ exported r (now (g .exit)) ≡ effectByCode (now (g .entry)) number code width ⌝ }
 {
     let named = type_by_code(code, width);
     let MaybeType::Some(ty) = named else {
-        return no_type(g);
+        return Answer::Refused(Refusal::Typing).number();
     };
-    let min = Word {
-        lo: min_low,
-        hi: min_high,
-    };
-    let max = Word {
-        lo: max_low,
-        hi: max_high,
-    };
-    let range = range_by_words(flag, min, max);
-    declare::input(g, InputId(number), ty, range).number()
+    declare::effect_in_graph(g, EffectId(number), ty).number()
 }
 
 #[no_mangle]
 pub extern "C" fn scalars_effect(g: &mut [u64], number: u64, code: u64, width: u64) -> u64
-    ensures { λ r. ⌜ exported r (now (g .exit)) ≡ effectExport (now (g .entry)) number code width ⌝ }
+    ensures { λ r. ⌜ exported r (now (g .exit)) ≡ asked (now (g .entry)) (effectByCode (now (g .entry)) number code width) ⌝ }
 {
-    let named = type_by_code(code, width);
-    let MaybeType::Some(ty) = named else {
-        return no_type(g);
-    };
-    declare::effect(g, EffectId(number), ty).number()
+    if is_graph(g) {
+        scalars_effect_in_graph(g, number, code, width)
+    } else {
+        Answer::Refused(Refusal::Graph).number()
+    }
 }
 
 #[no_mangle]
