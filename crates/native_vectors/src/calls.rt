@@ -1,0 +1,155 @@
+// The calls by their kinds: 1 to 3 are document 01's records, 11 to 13 literal, resolve and is_graph, and from 16 on the words are handled.
+use crate::lines::Fields;
+use crate::region::peek;
+use crate::region::poke;
+use crate::region::zero;
+use evaluate::Evaluated;
+use graph::EffectId;
+use graph::InputId;
+use graph::NodeId;
+use graph::well_formed::is_graph;
+use native::Answer;
+use native::MaybeType;
+use native::declare;
+use native::look;
+use range::MaybeRange;
+use range::Range;
+use range::ScalarType;
+use word::Word;
+
+// What a call answers.
+pub(crate) enum Reply {
+    Id(u64),
+    Value(Word),
+    None,
+    Refused(u64),
+    Yes,
+    No,
+}
+
+// What becomes of a line. A kind, type or length that there is not is malformed.
+pub(crate) enum Outcome {
+    Answered(Reply),
+    Words(Word, Word),
+    Done,
+    Malformed,
+}
+
+fn type_of(code: u64, width: u16) -> MaybeType {
+    match code {
+        0 => MaybeType::Some(ScalarType::Bool),
+        1 => MaybeType::Some(ScalarType::Bits(width)),
+        2 => MaybeType::Some(ScalarType::Integer),
+        _ => MaybeType::None,
+    }
+}
+
+fn range_of(flag: u64, min: Word, max: Word) -> MaybeRange {
+    if flag == 0 {
+        return MaybeRange::None;
+    }
+    MaybeRange::Some(Range {
+        min: min.as_signed(),
+        max: max.as_signed(),
+    })
+}
+
+fn of_answer(answer: Answer) -> Reply {
+    match answer {
+        Answer::Id(id) => Reply::Id(id.0),
+        Answer::None => Reply::None,
+        Answer::Refused(refusal) => Reply::Refused(refusal.number()),
+    }
+}
+
+fn of_evaluated(answer: Evaluated) -> Reply {
+    match answer {
+        Evaluated::Value(value) => Reply::Value(value),
+        Evaluated::None => Reply::None,
+        Evaluated::Refused(refusal) => Reply::Refused(refusal.number()),
+    }
+}
+
+fn of_bool(is: bool) -> Reply {
+    if is { Reply::Yes } else { Reply::No }
+}
+
+// The calls that declare a leaf.
+fn declared(g: &mut [u64], call: Fields) -> Outcome {
+    let named = type_of(call.type_code, call.width);
+    let MaybeType::Some(ty) = named else {
+        return Outcome::Malformed;
+    };
+    let kind = call.kind;
+    let number = call.number;
+    let reply = match kind {
+        1 => of_answer(declare::constant(g, ty, call.a)),
+        2 => {
+            let range = range_of(call.flag, call.a, call.b);
+            of_answer(declare::input(g, InputId(number), ty, range))
+        }
+        _ => of_answer(declare::effect(g, EffectId(number), ty)),
+    };
+    Outcome::Answered(reply)
+}
+
+// The calls that read.
+fn looked(g: &[u64], kind: u64, id: u64) -> Outcome {
+    let reply = match kind {
+        11 => of_evaluated(look::literal(g, NodeId(id))),
+        12 => of_answer(look::resolve(g, NodeId(id))),
+        _ => of_bool(is_graph(g)),
+    };
+    Outcome::Answered(reply)
+}
+
+// What handles the words, whatever the length given.
+fn handled(words: &mut [u64], call: Fields) -> Outcome {
+    let kind = call.kind;
+    let at = call.number;
+    match kind {
+        16 => {
+            zero(words);
+            Outcome::Done
+        }
+        17 => {
+            if poke(words, at, call.a, call.b) {
+                Outcome::Done
+            } else {
+                Outcome::Malformed
+            }
+        }
+        18 => four(words, at),
+        _ => Outcome::Malformed,
+    }
+}
+
+// Four words from `at` on.
+fn four(words: &[u64], at: u64) -> Outcome {
+    if 6142 < at {
+        return Outcome::Malformed;
+    }
+    let a = Word {
+        lo: peek(words, at),
+        hi: peek(words, at + 1),
+    };
+    let b = Word {
+        lo: peek(words, at + 2),
+        hi: peek(words, at + 3),
+    };
+    Outcome::Words(a, b)
+}
+
+// Performs the call on the first words, as many as it says.
+pub(crate) fn perform(words: &mut [u64], call: Fields) -> Outcome {
+    let kind = call.kind;
+    let len = call.len as usize;
+    if words.len() < len {
+        return Outcome::Malformed;
+    }
+    match kind {
+        1..=3 => declared(&mut words[0..len], call),
+        11..=13 => looked(&words[0..len], kind, call.number),
+        _ => handled(words, call),
+    }
+}

@@ -1,0 +1,121 @@
+// Compares the proved library with the original on random calls: the answers, and every word after every call.
+// usage: driver [--program PATH] [SEED [ROUNDS]]   or   driver times   or   driver vectors FOLDER
+mod call;
+mod classes;
+mod compare;
+mod edges;
+mod generate;
+#[cfg(library)]
+mod library;
+mod lines;
+#[allow(dead_code)]
+mod native {
+    include!(concat!(env!("OUT_DIR"), "/native.rs"));
+}
+mod original;
+mod program;
+mod random;
+mod regions;
+mod report;
+mod sweep;
+mod times;
+mod vectors;
+mod words;
+
+use call::Side;
+use classes::Rounds;
+use compare::Comparison;
+use generate::Source;
+use program::Program;
+use random::Random;
+use regions::WORD_KINDS;
+use std::env;
+use std::process::ExitCode;
+
+const SEED: u64 = 0x5ca1_ab1e_0004_0001;
+const ROUNDS: u64 = 20_000;
+// With fewer rounds something may not be met.
+const WHOLE: u64 = 1_000;
+
+fn library() -> Box<dyn Side> {
+    #[cfg(library)]
+    return Box::new(library::Library);
+    #[cfg(not(library))]
+    {
+        eprintln!("built without the library: run `rt staticlib native`, and build again");
+        std::process::exit(2);
+    }
+}
+
+// The library's tier for a region that is known to be a graph.
+fn twin() -> Box<dyn Side> {
+    #[cfg(library)]
+    return Box::new(library::InGraph);
+    #[cfg(not(library))]
+    library()
+}
+
+// A number, in hex after 0x.
+fn number(text: &str) -> u64 {
+    let parsed = match text.strip_prefix("0x") {
+        Some(digits) => u64::from_str_radix(digits, 16),
+        None => text.parse(),
+    };
+    parsed.unwrap_or_else(|_| panic!("{text} is no number"))
+}
+
+fn compare(side: &mut dyn Side, has_numbers: bool, seed: u64, rounds: u64) -> ExitCode {
+    println!("seed {seed:#x}, {rounds} rounds\n");
+    let mut all = Rounds {
+        source: Source {
+            random: Random(seed),
+            has_numbers,
+        },
+        comparison: Comparison::new(side),
+        damages: vec![[0; 2]; WORD_KINDS.len()],
+    };
+    let mut compared = all.fixed();
+    for round in 0..rounds {
+        compared = compared.and_then(|()| all.round(round));
+    }
+    if let Err(difference) = compared {
+        println!("DIFFERENCE\n{}", difference.described());
+        return ExitCode::FAILURE;
+    }
+    report::print(&all);
+    let missing = report::missing(&all.comparison);
+    if rounds >= WHOLE && !missing.is_empty() {
+        println!("NEVER MET: {}", missing.join("; "));
+        return ExitCode::FAILURE;
+    }
+    ExitCode::SUCCESS
+}
+
+fn main() -> ExitCode {
+    let args: Vec<String> = env::args().skip(1).collect();
+    let args: Vec<&str> = args.iter().map(String::as_str).collect();
+    let run = |side: &mut dyn Side, has_numbers, args: &[&str]| {
+        let seed = args.first().map_or(SEED, |text| number(text));
+        let rounds = args.get(1).map_or(ROUNDS, |text| number(text));
+        compare(side, has_numbers, seed, rounds)
+    };
+    match args.as_slice() {
+        ["vectors", folder] => {
+            vectors::write(folder);
+            ExitCode::SUCCESS
+        }
+        ["times"] => {
+            times::print(library().as_mut(), twin().as_mut());
+            ExitCode::SUCCESS
+        }
+        ["--program", path, rest @ ..] => run(&mut Program::new(path), false, rest),
+        rest => {
+            let code = run(library().as_mut(), true, rest);
+            if code == ExitCode::SUCCESS {
+                println!();
+                times::print(library().as_mut(), twin().as_mut());
+            }
+            code
+        }
+    }
+}
