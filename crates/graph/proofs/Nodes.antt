@@ -13,7 +13,7 @@ use Rattle.word.proofs.Integer.{lt-or-ge}
 use Rattle.range.specs.Interval.{Interval}
 use Rattle.range.specs.declared.ScalarType.{ScalarType}
 use Rattle.graph.specs.Layout.{WORDS, FIRST, LIMIT, REGION, nodeStart, wordAt, countOf}
-use Rattle.graph.specs.Node.{Op, wordsOf, typeOf, typeAt, rangeOf, rangeAt, operationOf, operationAt, aliasAt, rangeFlag, rangeLow, rangeHigh, pair}
+use Rattle.graph.specs.Node.{Op, wordsOf, typeOf, typeAt, rangeOf, rangeAt, operationOf, operationAt, aliasAt, rangeFlag, rangeLow, rangeHigh, pair, nodeAt}
 use Rattle.graph.specs.Insert.{id, made, appended, follow}
 use Rattle.graph.proofs.Codes.{Stored, pair-back, type-back, range-back, operation-back}
 
@@ -150,3 +150,12 @@ pub appended-new : (g : List ℕ) (t : ScalarType) (r : Option Interval) (o : Op
     → Holds (appended g (wordsOf t r o) .words) (countOf g) t r o 0
 appended-new g t r o size room s =
     words-back (appended g (wordsOf t r o) .words) (countOf g) t r o s (appended-word g (wordsOf t r o) size (length-words t r o) room)
+
+-- the new node and every other one, whole
+pub node-new : (g : List ℕ) (t : ScalarType) (r : Option Interval) (o : Op) → length g ≡ REGION → countOf g < LIMIT → Stored t r o
+    → nodeAt (appended g (wordsOf t r o) .words) (countOf g) ≡ record { type = t; range = r; operation = o }
+node-new g t r o size room s = let h = appended-new g t r o size room s in λ i. record { type = h .type i; range = h .range i; operation = h .operation i }
+
+pub node-other : (g ws : List ℕ) → length g ≡ REGION → length ws ≡ WORDS → countOf g < LIMIT → (n : ℕ) → (n ≡ countOf g → ⊥)
+    → nodeAt (appended g ws .words) n ≡ nodeAt g n
+node-other g ws size all room n d = let h = appended-other g ws size all room n d in λ i. record { type = h .type i; range = h .range i; operation = h .operation i }

@@ -6,7 +6,7 @@ use Prim.Native.Nat.{ℕ, _+_, _-_, _*_, _/_, _%_, _^_}
 use lib.Dec.{eqb, ltb}
 use lib.ListN.{getD}
 use Rattle.word.specs.Value.{val, residue, signed}
-use Rattle.range.specs.Interval.{Interval}
+use Rattle.range.specs.Interval.{Interval, intervalOf}
 use Rattle.range.specs.declared.ScalarType.{ScalarType}
 use Rattle.range.specs.declared.ScalarType.the-variants as ty
 use Rattle.evaluate.specs.declared.Unary.{Unary}
@@ -14,6 +14,7 @@ use Rattle.evaluate.specs.declared.Unary.the-variants as un
 use Rattle.evaluate.specs.declared.Binary.{Binary}
 use Rattle.evaluate.specs.declared.Binary.the-variants as bi
 use Rattle.evaluate.specs.Operator.{unaryCode, unaryWidth, binaryCode, typeWidth}
+use Rattle.graph.specs.declared.Node.{Node}
 use Rattle.graph.specs.declared.Operation.{Operation}
 use Rattle.graph.specs.declared.Operation.the-variants as operation
 use Rattle.graph.specs.Layout.{wordAt}
@@ -95,6 +96,18 @@ operationOf code x y z =
 
 abbrev pub operationAt : List ℕ → ℕ → Op
 operationAt g n = operationOf (wordAt g n 7) (wordAt g n 8) (wordAt g n 9) (wordAt g n 10)
+
+-- a node but for its alias
+pub record Parts : Type 0 where
+  pub type : ScalarType
+  pub range : Option Interval
+  pub operation : Op
+
+abbrev pub nodeOf : Node → Parts
+nodeOf n = record { type = n .ty; range = intervalOf (n .range); operation = opOf (n .operation) }
+
+abbrev pub nodeAt : List ℕ → ℕ → Parts
+nodeAt g n = record { type = typeAt g n; range = rangeAt g n; operation = operationAt g n }
 
 -- the alias plus 1, or 0
 abbrev pub aliasAt : List ℕ → ℕ → ℕ

@@ -8,6 +8,8 @@ pub mod well_formed;
 
 use evaluate::Binary;
 use evaluate::Unary;
+use range::MaybeRange;
+use range::ScalarType;
 use word::Word;
 
 pub struct NodeId(pub u64);
@@ -34,6 +36,13 @@ pub enum Operation {
     },
     Unary(Unary, NodeId),
     Binary(Binary, NodeId, NodeId),
+}
+
+// A node as its words say, but for its alias.
+pub struct Node {
+    pub ty: ScalarType,
+    pub range: MaybeRange,
+    pub operation: Operation,
 }
 
 // What a builder answers: a node, the Rust's None, no room for a node, or no units left.

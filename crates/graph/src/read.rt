@@ -5,10 +5,11 @@ ghost use lib.ListN.{length};
 ghost use Rattle.word.specs.Value.{val, numberOf};
 ghost use Rattle.range.specs.Interval.{intervalOf};
 ghost use Rattle.graph.specs.Layout.{REGION};
-ghost use Rattle.graph.specs.Node.{typeOf, rangeOf, unaryOf, binaryOf, operationOf, opOf, typeAt, rangeAt, operationAt};
+ghost use Rattle.graph.specs.Node.{typeOf, rangeOf, unaryOf, binaryOf, operationOf, opOf, typeAt, rangeAt, operationAt, nodeOf, nodeAt};
 ghost use Rattle.graph.specs.Insert.{literal, resolve};
 use crate::EffectId;
 use crate::InputId;
+use crate::Node;
 use crate::NodeId;
 use crate::Operation;
 use crate::layout::LIMIT;
@@ -154,6 +155,20 @@ pub fn operation_at(g: &[u64], id: NodeId) -> Operation
         word_at(g, n, 9),
         word_at(g, n, 10),
     )
+}
+
+pub fn node_at(g: &[u64], id: NodeId) -> Node
+    requires { ⌜ length (now g) ≡ REGION ⌝ }
+    ensures { λ r. ⌜ nodeOf r ≡ nodeAt (now (g .entry)) (id .0) ⌝ }
+{
+    let ty = type_at(g, id);
+    let range = range_at(g, id);
+    let operation = operation_at(g, id);
+    Node {
+        ty: ty,
+        range: range,
+        operation: operation,
+    }
 }
 
 // The value of a constant.
