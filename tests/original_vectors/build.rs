@@ -1,12 +1,6 @@
-// Adapts the original to one module, OUT_DIR/native.rs: its files inlined, and a way in to its private functions.
-// ORIGINAL is the folder that holds the original's crates; by default ../shared/docs/src beside the repository.
-use std::path::{Path, PathBuf};
-use std::{env, fs};
-
-const SOURCE: &str = "crates/vmlab-hv-tcg-ir/src/native";
-
-// The graph's own files. The others are not there, or need files that are not there.
-const KEPT: [&str; 4] = ["assume", "bitfield", "linear", "modular"];
+// Adapts the original, with a way in to its private functions.
+#[path = "../original/adapt.rs"]
+mod adapt;
 
 const OPENED: &str = "
 pub mod opened {
@@ -30,40 +24,6 @@ pub mod opened {
 }
 ";
 
-fn read(path: &Path) -> String {
-    println!("cargo::rerun-if-changed={}", path.display());
-    fs::read_to_string(path).unwrap_or_else(|error| panic!("{}: {error}", path.display()))
-}
-
-// A line of the original, or what stands for it.
-fn adapted(line: &str, folder: &Path) -> String {
-    let words = line.trim_start_matches("pub ");
-    if line.starts_with("//!") {
-        return String::new();
-    }
-    let Some(name) = words
-        .strip_prefix("mod ")
-        .and_then(|rest| rest.strip_suffix(';'))
-    else {
-        return format!("{line}\n");
-    };
-    if !KEPT.contains(&name) {
-        return String::new();
-    }
-    let text = read(&folder.join(format!("{name}.rs")));
-    format!("pub mod {name} {{\n{text}}}\n")
-}
-
 fn main() {
-    println!("cargo::rerun-if-env-changed=ORIGINAL");
-    let package = PathBuf::from(env::var("CARGO_MANIFEST_DIR").expect("set by cargo"));
-    let original = match env::var("ORIGINAL") {
-        Ok(folder) => PathBuf::from(folder),
-        Err(_) => package.join("../../../shared/docs/src"),
-    };
-    let folder = original.join(SOURCE);
-    let text = read(&folder.with_extension("rs"));
-    let module: String = text.lines().map(|line| adapted(line, &folder)).collect();
-    let out = PathBuf::from(env::var("OUT_DIR").expect("set by cargo"));
-    fs::write(out.join("native.rs"), module + OPENED).expect("write native.rs");
+    adapt::adapt(OPENED);
 }

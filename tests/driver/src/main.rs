@@ -12,6 +12,8 @@ mod lines;
 mod native {
     include!(concat!(env!("OUT_DIR"), "/native.rs"));
 }
+#[path = "../../original/operators.rs"]
+mod operators;
 mod original;
 mod program;
 mod random;

@@ -1,7 +1,8 @@
 // Random regions that pass question 1, and damage to a region.
 use crate::generate::{PATTERNS, Source, Spread, WIDTHS};
 use crate::native::{Graph, Operation, Scalar, ScalarType, Unary};
-use crate::words::{BINARIES, LIMIT, REGION, WORDS, encode, node_words, start_of};
+use crate::operators;
+use crate::words::{LIMIT, REGION, WORDS, encode, node_words, start_of};
 
 // The kinds of words: a node's own by their place, and these two.
 pub const COUNT_WORD: usize = WORDS;
@@ -30,15 +31,7 @@ impl Source {
 
     fn unary(&mut self) -> Unary {
         let width = self.operator_width();
-        self.random.pick(&[
-            Unary::BoolNot,
-            Unary::BitNot,
-            Unary::Negate,
-            Unary::Truncate(width),
-            Unary::SignExtend(width),
-            Unary::LeadingZeros(width),
-            Unary::TrailingZeros(width),
-        ])
+        self.random.pick(&operators::unary(width))
     }
 
     // Any operation whose operands are below the node.
@@ -63,7 +56,7 @@ impl Source {
                 low_width: self.operator_width(),
             },
             7 => Operation::Unary(self.unary(), a),
-            _ => Operation::Binary(self.random.pick(&BINARIES), a, b),
+            _ => Operation::Binary(self.random.pick(&operators::BINARY), a, b),
         }
     }
 

@@ -1,35 +1,14 @@
 // The region, written from document 01's text: the words of a graph, the graph of words, and question 1.
 use crate::native::opened;
-use crate::native::{Binary, Graph, Operation, Range, Scalar, ScalarType, Unary};
+use crate::native::{Graph, Operation, Range, Scalar, ScalarType, Unary};
+use crate::operators::{self, BINARY_CODE, UNARY_CODE};
 
 pub const REGION: usize = 6145;
 pub const WORDS: usize = 12;
 pub const LIMIT: usize = 512;
 
-const UNARY: u64 = 10;
-const BINARY: u64 = 20;
-
-pub const BINARIES: [Binary; 19] = [
-    Binary::Add,
-    Binary::Sub,
-    Binary::Mul,
-    Binary::And,
-    Binary::Or,
-    Binary::Xor,
-    Binary::ShiftLeft,
-    Binary::ShiftRight,
-    Binary::ArithmeticShiftRight,
-    Binary::Equal,
-    Binary::NotEqual,
-    Binary::LessSigned,
-    Binary::LessUnsigned,
-    Binary::LessEqualSigned,
-    Binary::LessEqualUnsigned,
-    Binary::DivideSigned,
-    Binary::RemainderSigned,
-    Binary::DivideUnsigned,
-    Binary::RemainderUnsigned,
-];
+const UNARY: u64 = UNARY_CODE as u64;
+const BINARY: u64 = BINARY_CODE as u64;
 
 // A node of the region: what the original keeps in its list, and the alias.
 pub struct Node {
@@ -104,7 +83,9 @@ fn operation_words(operation: &Operation) -> [u64; 4] {
             [code, id as u64, 0, width]
         }
         Operation::Binary(operation, left, right) => {
-            let place = BINARIES.iter().position(|other| *other == operation);
+            let place = operators::BINARY
+                .iter()
+                .position(|other| *other == operation);
             let place = place.expect("every operator is listed") as u64;
             [BINARY + place, left as u64, right as u64, 0]
         }
@@ -161,7 +142,9 @@ fn operation_of(words: &[u64]) -> Option<Operation> {
             low_width: width(3)?,
         },
         code @ 10..=16 => Operation::Unary(unary_of(code, width(3)?), id(1)),
-        code @ 20..=38 => Operation::Binary(BINARIES[(code - BINARY) as usize], id(1), id(2)),
+        code @ 20..=38 => {
+            Operation::Binary(operators::BINARY[(code - BINARY) as usize], id(1), id(2))
+        }
         _ => return None,
     })
 }

@@ -3,9 +3,7 @@ use crate::native::{
     Binary, Graph, Operation, Range, ScalarType, Unary, evaluate_binary, evaluate_unary, mask,
     opened,
 };
-
-const UNARY_CODE: u8 = 10;
-const BINARY_CODE: u8 = 20;
+use crate::operators::{BINARY, BINARY_CODE, UNARY_CODE, unary};
 
 // The range of a node has its operator's code with this bit set.
 pub const RANGE_OF: u8 = 0x40;
@@ -15,41 +13,6 @@ pub const TYPE_RANGE: u8 = 0x81;
 pub const SINGLETON: u8 = 0x82;
 pub const CONTAINS: u8 = 0x83;
 pub const EQ: u8 = 0x84;
-
-pub const BINARY: [Binary; 19] = [
-    Binary::Add,
-    Binary::Sub,
-    Binary::Mul,
-    Binary::And,
-    Binary::Or,
-    Binary::Xor,
-    Binary::ShiftLeft,
-    Binary::ShiftRight,
-    Binary::ArithmeticShiftRight,
-    Binary::Equal,
-    Binary::NotEqual,
-    Binary::LessSigned,
-    Binary::LessUnsigned,
-    Binary::LessEqualSigned,
-    Binary::LessEqualUnsigned,
-    Binary::DivideSigned,
-    Binary::RemainderSigned,
-    Binary::DivideUnsigned,
-    Binary::RemainderUnsigned,
-];
-
-// The unary operators with that parameter.
-pub fn unary(width: u16) -> [Unary; 7] {
-    [
-        Unary::BoolNot,
-        Unary::BitNot,
-        Unary::Negate,
-        Unary::Truncate(width),
-        Unary::SignExtend(width),
-        Unary::LeadingZeros(width),
-        Unary::TrailingZeros(width),
-    ]
-}
 
 pub fn unary_code(operation: Unary) -> u8 {
     let width = parameter(operation);

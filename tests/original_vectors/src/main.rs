@@ -3,6 +3,8 @@
 // with a space between two fields. What a code does not use is 0. A range is two operands, its ends.
 mod answers;
 mod operands;
+#[path = "../../original/operators.rs"]
+mod operators;
 #[path = "../../vectors/src/random.rs"]
 mod random;
 
@@ -14,6 +16,7 @@ mod native {
 use answers::*;
 use native::{Binary, Range, ScalarType, Unary};
 use operands::*;
+use operators::*;
 use random::Random;
 use std::{env, fs};
 
