@@ -18,6 +18,7 @@ pub data Outcome : Type 0 where
   nothing : Outcome
   refused : ℕ → Outcome
 
+-- what an Evaluated stands for
 abbrev pub outcomeOf : Evaluated → Outcome
 outcomeOf (evaluated.Value w) = value (val w)
 outcomeOf evaluated.None = nothing
@@ -32,8 +33,10 @@ answered (some n) = value n
 abbrev pub asked : ℕ → Outcome → Outcome
 asked w o = cond (leb w 128) o (refused 2)
 
+-- the call evaluate_unary: question 2, then the operator's answer
 unfoldable pub evaluateUnaryCall : Unary → ℕ → Outcome
 evaluateUnaryCall o v = asked (unaryWidth o) (answered (evaluateUnary o v))
 
+-- the call evaluate_binary: question 2, then the operator's answer
 unfoldable pub evaluateBinaryCall : Binary → ScalarType → ℕ → ℕ → Outcome
 evaluateBinaryCall o t a b = asked (typeWidth t) (answered (evaluateBinary o t a b))

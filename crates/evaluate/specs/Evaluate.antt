@@ -74,9 +74,11 @@ byType ty.Integer i u = i
 abbrev pub toU32 : ℕ → ℕ
 toU32 n = min n (2 ^ 32 - 1)
 
+-- a.checked_shl(b).unwrap_or(0), b as a u32
 abbrev pub shiftedLeft : ℕ → ℕ → ℕ
 shiftedLeft a b = orZero (u128.checked-shl a (toU32 b))
 
+-- a.checked_shr(b).unwrap_or(0), b as a u32
 abbrev pub shiftedRight : ℕ → ℕ → ℕ
 shiftedRight a b = orZero (u128.checked-shr a (toU32 b))
 

@@ -26,6 +26,7 @@ pub data Reply : Type 0 where
   room : Reply
   units : Reply
 
+-- what a Built stands for
 abbrev pub builtOf : Built → Reply
 builtOf (built.Id i) = id (i .0)
 builtOf built.None = nothing
@@ -37,11 +38,13 @@ pub record Made : Type 0 where
   pub answer : Reply
   pub words : List ℕ
 
+-- an answer with the words of the region
 abbrev pub made : Reply → List ℕ → Made
 made a g = record { answer = a; words = g }
 
 -- ---- reading
 
+-- the value of an operation that is a constant
 abbrev pub literalOf : Op → Option ℕ
 literalOf (node.constant c) = some c
 literalOf (node.input i) = none
@@ -81,6 +84,7 @@ abbrev pub lowest : (ℕ → Bool) → ℕ → ℕ → Option ℕ
 lowest p i zero = none
 lowest p i (suc k) = cond (p i) (some i) (lowest p (suc i) k)
 
+-- what a Found stands for
 abbrev pub foundOf : Found → Option ℕ
 foundOf (found.At n) = some n
 foundOf found.Nothing = none
@@ -123,6 +127,7 @@ constantInterval ty.Bool v = some (point (signed 128 v))
 constantInterval (ty.Bits w) v = cond (isNeg (signed 128 v)) none (some (point (signed 128 v)))
 constantInterval ty.Integer v = some (point (signed 128 v))
 
+-- a constant of a type: its value reduced to the type, with its range
 unfoldable pub constant : List ℕ → ScalarType → ℕ → Made
 constant g t v = inserted g t (constantInterval t (reduced t v)) (node.constant (reduced t v))
 
@@ -131,8 +136,10 @@ abbrev pub orElse : Option Interval → Option Interval → Option Interval
 orElse none r = r
 orElse (some a) r = some a
 
+-- an input with its number: the range given, or its type's
 unfoldable pub input : List ℕ → ℕ → ScalarType → Option Interval → Made
 input g i t r = inserted g t (orElse r (typeInterval t)) (node.input i)
 
+-- an effect with its number: its type's range
 unfoldable pub effect : List ℕ → ℕ → ScalarType → Made
 effect g i t = inserted g t (typeInterval t) (node.effect i)

@@ -51,6 +51,7 @@ narrow n = n % 2 ^ 16
 abbrev pub typeOf : ℕ → ℕ → ScalarType
 typeOf code width = cond (eqb code 0) ty.Bool (cond (eqb code 1) (ty.Bits (narrow width)) ty.Integer)
 
+-- the type of node n, words 0 and 1
 abbrev pub typeAt : List ℕ → ℕ → ScalarType
 typeAt g n = typeOf (wordAt g n 0) (wordAt g n 1)
 
@@ -62,6 +63,7 @@ pair low high = high * 2 ^ 64 + low
 abbrev pub rangeOf : ℕ → ℕ → ℕ → Option Interval
 rangeOf flag low high = cond (eqb flag 0) none (some (record { low = signed 128 low; high = signed 128 high }))
 
+-- the range of node n, words 2 to 6
 abbrev pub rangeAt : List ℕ → ℕ → Option Interval
 rangeAt g n = rangeOf (wordAt g n 2) (pair (wordAt g n 3) (wordAt g n 4)) (pair (wordAt g n 5) (wordAt g n 6))
 
@@ -69,6 +71,7 @@ rangeAt g n = rangeOf (wordAt g n 2) (pair (wordAt g n 3) (wordAt g n 4)) (pair 
 abbrev pub unaries : ℕ → List Unary
 unaries w = un.BoolNot ∷ un.BitNot ∷ un.Negate ∷ un.Truncate w ∷ un.SignExtend w ∷ un.LeadingZeros w ∷ un.TrailingZeros w ∷ []
 
+-- the unary operator of a code
 abbrev pub unaryOf : ℕ → ℕ → Unary
 unaryOf code width = getD (unaries width) (code - 10) un.BoolNot
 
@@ -79,6 +82,7 @@ binaries =
     ∷ bi.Equal ∷ bi.NotEqual ∷ bi.LessSigned ∷ bi.LessUnsigned ∷ bi.LessEqualSigned ∷ bi.LessEqualUnsigned
     ∷ bi.DivideSigned ∷ bi.RemainderSigned ∷ bi.DivideUnsigned ∷ bi.RemainderUnsigned ∷ []
 
+-- the binary operator of a code
 abbrev pub binaryOf : ℕ → Binary
 binaryOf code = getD binaries (code - 20) bi.Add
 
@@ -94,6 +98,7 @@ operationOf code x y z =
     (cond (ltb code 20) (unary (unaryOf code (narrow z)) x)
     (binary (binaryOf code) x y)))))))
 
+-- the operation of node n, words 7 to 10
 abbrev pub operationAt : List ℕ → ℕ → Op
 operationAt g n = operationOf (wordAt g n 7) (wordAt g n 8) (wordAt g n 9) (wordAt g n 10)
 
@@ -103,9 +108,11 @@ pub record Parts : Type 0 where
   pub range : Option Interval
   pub operation : Op
 
+-- what a Node stands for
 abbrev pub nodeOf : Node → Parts
 nodeOf n = record { type = n .ty; range = intervalOf (n .range); operation = opOf (n .operation) }
 
+-- node n but for its alias
 abbrev pub nodeAt : List ℕ → ℕ → Parts
 nodeAt g n = record { type = typeAt g n; range = rangeAt g n; operation = operationAt g n }
 
@@ -115,24 +122,28 @@ aliasAt g n = wordAt g n 11
 
 -- ---- writing
 
+-- 0 Bool, 1 Bits, 2 Integer
 abbrev pub typeCode : ScalarType → ℕ
 typeCode ty.Bool = 0
 typeCode (ty.Bits w) = 1
 typeCode ty.Integer = 2
 
+-- is there a range? 0 or 1
 abbrev pub rangeFlag : Option Interval → ℕ
 rangeFlag none = 0
 rangeFlag (some a) = 1
 
--- the patterns of a range's ends, 0 without a range
+-- the pattern of the minimum, 0 without a range
 abbrev pub rangeLow : Option Interval → ℕ
 rangeLow none = 0
 rangeLow (some a) = residue 128 (a .low)
 
+-- the pattern of the maximum, 0 without a range
 abbrev pub rangeHigh : Option Interval → ℕ
 rangeHigh none = 0
 rangeHigh (some a) = residue 128 (a .high)
 
+-- the code of an operation
 abbrev pub opCode : Op → ℕ
 opCode (constant c) = 0
 opCode (input i) = 1
@@ -143,6 +154,7 @@ opCode (concat i j w) = 5
 opCode (unary u i) = unaryCode u
 opCode (binary b i j) = binaryCode b
 
+-- word 8: a constant's low half, a number, or the first operand
 abbrev pub opX : Op → ℕ
 opX (constant c) = c % 2 ^ 64
 opX (input i) = i
@@ -153,6 +165,7 @@ opX (concat i j w) = i
 opX (unary u i) = i
 opX (binary b i j) = i
 
+-- word 9: a constant's high half, an offset, or the second operand
 abbrev pub opY : Op → ℕ
 opY (constant c) = c / 2 ^ 64
 opY (input i) = 0
@@ -163,6 +176,7 @@ opY (concat i j w) = j
 opY (unary u i) = 0
 opY (binary b i j) = j
 
+-- word 10: a width, or a unary operator's parameter
 abbrev pub opZ : Op → ℕ
 opZ (constant c) = 0
 opZ (input i) = 0

@@ -44,6 +44,7 @@ isOperation n code x y z =
 abbrev pub isAlias : ℕ → ℕ → ℕ → Bool
 isAlias n count alias = one (eqb alias 0) (both (ltb n (alias - 1)) (leb alias count))
 
+-- node n: its type, range, alias and operation
 abbrev pub isNode : List ℕ → ℕ → ℕ → Bool
 isNode g count n =
     both (isType (wordAt g n 0) (wordAt g n 1))
@@ -56,6 +57,7 @@ abbrev pub areNodes : List ℕ → ℕ → ℕ → Bool
 areNodes g count zero = true
 areNodes g count (suc m) = both (areNodes g count m) (isNode g count m)
 
+-- are all of these words 0?
 abbrev pub areZeros : List ℕ → Bool
 areZeros [] = true
 areZeros (w ∷ ws) = both (eqb w 0) (areZeros ws)

@@ -23,6 +23,7 @@ pub data Response : Type 0 where
   nothing : Response
   refused : ℕ → Response
 
+-- what an Answer stands for
 abbrev pub answerOf : Answer → Response
 answerOf (answer.Id i) = id (i .0)
 answerOf answer.None = nothing
@@ -39,6 +40,7 @@ pub record Called : Type 0 where
   pub answer : Response
   pub words : List ℕ
 
+-- an answer with the words of the region
 abbrev pub called : Response → List ℕ → Called
 called a g = record { answer = a; words = g }
 
@@ -60,6 +62,7 @@ leaves g graph.nothing h = h
 leaves g graph.room h = g
 leaves g graph.units h = g
 
+-- what a call answers and leaves, by its builder's answer and words
 abbrev pub finished : List ℕ → Made → Called
 finished g m = called (settled (m .answer)) (leaves g (m .answer) (m .words))
 
@@ -79,30 +82,38 @@ isBoolValue ty.Bool v = ltb v 2
 isBoolValue (ty.Bits w) v = true
 isBoolValue ty.Integer v = true
 
+-- no range, or one that is not empty and inside the type
 abbrev pub isDeclared : ScalarType → Option Interval → Bool
 isDeclared t none = true
 isDeclared t (some a) = both (leZ (a .low) (a .high)) (insideType t a)
 
+-- question 5, by its test
 abbrev pub question5 : List ℕ → Bool → Called → Called
 question5 g t c = cond t c (refusal g 5)
 
 -- ---- the calls
 
+-- the call constant on a graph
 unfoldable pub constantInGraph : List ℕ → ScalarType → ℕ → Called
 constantInGraph g t v = question2 g (typeWidth t) (question5 g (isBoolValue t v) (finished g (graph.constant g t v)))
 
+-- the call constant
 unfoldable pub constantCall : List ℕ → ScalarType → ℕ → Called
 constantCall g t v = question1 g (constantInGraph g t v)
 
+-- the call input on a graph
 unfoldable pub inputInGraph : List ℕ → ℕ → ScalarType → Option Interval → Called
 inputInGraph g i t r = question2 g (typeWidth t) (question5 g (isDeclared t r) (finished g (graph.input g i t r)))
 
+-- the call input
 unfoldable pub inputCall : List ℕ → ℕ → ScalarType → Option Interval → Called
 inputCall g i t r = question1 g (inputInGraph g i t r)
 
+-- the call effect on a graph
 unfoldable pub effectInGraph : List ℕ → ℕ → ScalarType → Called
 effectInGraph g i t = question2 g (typeWidth t) (finished g (graph.effect g i t))
 
+-- the call effect
 unfoldable pub effectCall : List ℕ → ℕ → ScalarType → Called
 effectCall g i t = question1 g (effectInGraph g i t)
 
@@ -110,14 +121,18 @@ effectCall g i t = question1 g (effectInGraph g i t)
 abbrev pub question3 : {A : Type 0} → List ℕ → ℕ → A → A → A
 question3 g n c refusal3 = cond (ltb n (countOf g)) c refusal3
 
+-- the call literal on a graph
 unfoldable pub literalInGraph : List ℕ → ℕ → evaluate.Outcome
 literalInGraph g n = question3 g n (evaluate.answered (graph.literal g n)) (evaluate.refused 3)
 
+-- the call literal
 unfoldable pub literalCall : List ℕ → ℕ → evaluate.Outcome
 literalCall g n = cond (isGraph g) (literalInGraph g n) (evaluate.refused 1)
 
+-- the call resolve on a graph
 unfoldable pub resolveInGraph : List ℕ → ℕ → Response
 resolveInGraph g n = question3 g n (id (graph.resolve g n)) (refused 3)
 
+-- the call resolve
 unfoldable pub resolveCall : List ℕ → ℕ → Response
 resolveCall g n = cond (isGraph g) (resolveInGraph g n) (refused 1)

@@ -14,6 +14,7 @@ use Rattle.native.specs.Call.{nothing, refused, answerNumber, Called, co
 use Rattle.native.specs.declared.MaybeType.{MaybeType}
 use Rattle.native.specs.declared.MaybeType.the-variants as named
 
+-- what a MaybeType stands for
 abbrev pub typeOf : MaybeType → Option ScalarType
 typeOf (named.Some t) = some t
 typeOf named.None = none
@@ -30,9 +31,11 @@ pub record Exported : Type 0 where
   pub number : ℕ
   pub words : List ℕ
 
+-- a number with the words after the call
 abbrev pub exported : ℕ → List ℕ → Exported
 exported n g = record { number = n; words = g }
 
+-- a call's answer as a number, with the words after it
 abbrev pub numbered : Called → Exported
 numbered c = exported (answerNumber (c .answer)) (c .words)
 
@@ -45,12 +48,15 @@ abbrev pub withType : List ℕ → Option ScalarType → (ScalarType → Called)
 withType g none f = exported (answerNumber (refused 4)) g
 withType g (some t) f = numbered (f t)
 
+-- constant on a graph, its type by code and width
 unfoldable pub constantByCode : List ℕ → ℕ → ℕ → ℕ → Exported
 constantByCode g code width v = withType g (typeByCode code width) (λ t. constantInGraph g t v)
 
+-- input on a graph, its type by code and width
 unfoldable pub inputByCode : List ℕ → ℕ → ℕ → ℕ → Option Interval → Exported
 inputByCode g i code width r = withType g (typeByCode code width) (λ t. inputInGraph g i t r)
 
+-- effect on a graph, its type by code and width
 unfoldable pub effectByCode : List ℕ → ℕ → ℕ → ℕ → Exported
 effectByCode g i code width = withType g (typeByCode code width) (λ t. effectInGraph g i t)
 
@@ -61,5 +67,6 @@ written (evaluate.value v) out =
 written evaluate.nothing out = exported (answerNumber nothing) out
 written (evaluate.refused k) out = exported (answerNumber (refused k)) out
 
+-- literal, with a slice for the value
 unfoldable pub literalExport : List ℕ → ℕ → List ℕ → Exported
 literalExport g n out = written (literalCall g n) out

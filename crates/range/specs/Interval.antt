@@ -27,6 +27,7 @@ pub record _∈_ (z : ℤ) (a : Interval) : Type 0 where
 abbrev pub boundsOf : Range → Interval
 boundsOf r = record { low = intOf (r .min); high = intOf (r .max) }
 
+-- what a MaybeRange stands for
 abbrev pub intervalOf : MaybeRange → Option Interval
 intervalOf (range.Some r) = some (boundsOf r)
 intervalOf range.None = none
@@ -95,12 +96,15 @@ between none h = none
 between (some l) none = none
 between (some l) (some h) = some (record { low = l; high = h })
 
+-- Add: the sums of the minima and of the maxima
 unfoldable pub addInterval : Interval → Interval → Option Interval
 addInterval a b = between (fitted (a .low +ℤ b .low)) (fitted (a .high +ℤ b .high))
 
+-- Sub: minimum less maximum, and maximum less minimum
 unfoldable pub subInterval : Interval → Interval → Option Interval
 subInterval a b = between (fitted (a .low -ℤ b .high)) (fitted (a .high -ℤ b .low))
 
+-- Negate: the ends negated, in the other order
 unfoldable pub negInterval : Interval → Option Interval
 negInterval a = between (fitted (negℤ (a .high))) (fitted (negℤ (a .low)))
 
@@ -113,6 +117,7 @@ cornersOf (some p) (some q) (some r) none = none
 cornersOf (some p) (some q) (some r) (some s) =
     some (record { low = minZ (minZ p q) (minZ r s); high = maxZ (maxZ p q) (maxZ r s) })
 
+-- Mul: the products at the four corners
 unfoldable pub mulInterval : Interval → Interval → Option Interval
 mulInterval a b =
     cornersOf (fitted (a .low *ℤ b .low)) (fitted (a .low *ℤ b .high)) (fitted (a .high *ℤ b .low)) (fitted (a .high *ℤ b .high))
@@ -122,6 +127,7 @@ unfoldable pub divisible : Interval → Interval → Bool
 divisible a b =
     both (one (ltZ (pos 0) (b .low)) (ltZ (b .high) (pos 0))) (not (both (within a (negsuc (2 ^ 127 - 1))) (within b (negsuc 0))))
 
+-- DivideSigned: the quotients at the four corners
 unfoldable pub quotInterval : Interval → Interval → Option Interval
 quotInterval a b =
     provided (divisible a b)
@@ -137,12 +143,15 @@ cutTo a none n = none
 cutTo a (some m) none = none
 cutTo a (some m) (some n) = some (cut a (maxZ m n))
 
+-- RemainderSigned: below the largest divisor in size
 unfoldable pub remInterval : Interval → Interval → Option Interval
 remInterval a b = provided (divisible a b) (cutTo a (fitted (pos (natAbs (b .low)))) (fitted (pos (natAbs (b .high)))))
 
+-- And of non-negative ranges: 0 to the lesser maximum
 unfoldable pub andInterval : Interval → Interval → Option Interval
 andInterval a b = provided (both (nonnegative a) (nonnegative b)) (between (some (pos 0)) (some (minZ (a .high) (b .high))))
 
+-- DivideUnsigned of a non-negative range by a positive one: 0 to the largest quotient
 unfoldable pub udivInterval : Interval → Interval → Option Interval
 udivInterval a b = provided (both (nonnegative a) (ltZ (pos 0) (b .low))) (between (some (pos 0)) (quotient (a .high) (b .low)))
 
@@ -151,6 +160,7 @@ abbrev pub atMost : ℤ → Option ℤ → Option ℤ
 atMost z none = none
 atMost z (some m) = some (minZ z m)
 
+-- RemainderUnsigned of the same: 0 to the lesser of the maximum and the largest divisor less 1
 unfoldable pub uremInterval : Interval → Interval → Option Interval
 uremInterval a b = provided (both (nonnegative a) (ltZ (pos 0) (b .low))) (between (some (pos 0)) (atMost (a .high) (fitted (b .high -ℤ pos 1))))
 
@@ -163,9 +173,11 @@ clamped (negsuc n) = 128
 unfoldable pub shifted : ℤ → ℤ → Option ℤ
 shifted z n = provided (ltb (clamped n) 127) (fitted (z *ℤ pos (2 ^ clamped n)))
 
+-- ShiftLeft of non-negative ranges: the minimum by the least amount to the maximum by the largest
 unfoldable pub shlInterval : Interval → Interval → Option Interval
 shlInterval a b = provided (both (nonnegative a) (nonnegative b)) (between (shifted (a .low) (b .low)) (shifted (a .high) (b .high)))
 
+-- ShiftRight of non-negative ranges: the minimum by the largest amount to the maximum by the least
 unfoldable pub shrInterval : Interval → Interval → Option Interval
 shrInterval a b =
     only (both (nonnegative a) (nonnegative b))

@@ -81,10 +81,11 @@ eqZ (pos a) (negsuc b) = false
 eqZ (negsuc a) (pos b) = false
 eqZ (negsuc a) (negsuc b) = eqb a b
 
--- the lesser and the greater of two integers
+-- the lesser of two integers
 abbrev pub minZ : ℤ → ℤ → ℤ
 minZ a b = cond (ltZ b a) b a
 
+-- the greater of two integers
 abbrev pub maxZ : ℤ → ℤ → ℤ
 maxZ a b = cond (ltZ b a) a b
 
