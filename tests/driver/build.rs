@@ -1,8 +1,13 @@
-// Adapts the original, with a way in to its private parts, and links the proved library.
+// Adapts the original twice, with a way in to its private parts: as it is, and metered. Links the proved library.
 // LIBRARY is the folder that holds libnative.a, by default target/staticlib of the repository.
 #[path = "../original/adapt.rs"]
 mod adapt;
+#[allow(dead_code)]
+#[path = "src/sites.rs"]
+mod sites;
 
+use adapt::Change;
+use sites::{Form, Site};
 use std::path::Path;
 
 const OPENED: &str = "
@@ -23,6 +28,14 @@ pub mod opened {
         graph
     }
 
+    // Takes back the nodes past these. Builders change nothing else, and each has a key of its own.
+    pub fn put_back(graph: &mut Graph, count: usize) {
+        for scalar in graph.scalars.drain(count..) {
+            let key = (scalar.ty, scalar.range, scalar.operation);
+            graph.interned.remove(&key);
+        }
+    }
+
     pub fn alias(graph: &Graph, id: ScalarId) -> Option<ScalarId> {
         graph.aliases.get(&id).copied()
     }
@@ -32,6 +45,53 @@ pub mod opened {
     }
 }
 ";
+
+// The first lines of the six functions that cost a unit, and the line where a node is stored.
+const ENTRIES: [(&str, usize, &str); 6] = [
+    ("native.rs", 248, "if self.scalars[value].ty == ty {"),
+    ("native.rs", 273, "let value = self.resolve(value);"),
+    ("native.rs", 330, "let left = self.resolve(left);"),
+    ("native.rs", 614, "let value = self.resolve(value);"),
+    ("native.rs", 691, "let high = self.resolve(high);"),
+    ("modular.rs", 7, "let ty = ScalarType::Bits(width);"),
+];
+const STORE: (&str, usize, &str) = ("native.rs", 206, "self.scalars.push(Scalar {");
+
+// The line after a call of the meter.
+fn metered((file, line, text): (&'static str, usize, &str), call: &str) -> Change {
+    Change {
+        file,
+        line,
+        from: text.to_string(),
+        to: format!("crate::meter::{call}; {text}"),
+    }
+}
+
+fn limits() -> Vec<Change> {
+    let mut changes: Vec<Change> = ENTRIES.map(|entry| metered(entry, "enter()")).into();
+    changes.push(metered(STORE, "store(self.scalars.len())"));
+    changes
+}
+
+// Has a site counted.
+fn counted((number, site): (usize, Site)) -> Change {
+    let meter = "crate::meter::";
+    let text = site.text();
+    let to = match site.form {
+        Form::Before(_) => format!("{meter}hit({number}); {text}"),
+        Form::Pass(_) => format!("{meter}pass({number}, {text})"),
+        Form::None(_) => format!("{meter}none({number}, {text})"),
+        Form::When(_) => format!("{meter}when({number}, {text})"),
+        Form::Empty => format!("{{ {meter}hit({number}) }}"),
+        Form::Expected(_) => format!(".or_else(|| {meter}none({number}, None)){text}"),
+    };
+    Change {
+        file: site.file,
+        line: site.line,
+        from: text.to_string(),
+        to,
+    }
+}
 
 // Without the library the driver can still be built, and compares a program.
 fn link_library(folder: &Path) {
@@ -46,6 +106,9 @@ fn link_library(folder: &Path) {
 }
 
 fn main() {
-    adapt::adapt(OPENED);
+    let mut changes = limits();
+    changes.extend(sites::sites().enumerate().map(counted));
+    adapt::adapt("plain.rs", OPENED, &[]);
+    adapt::adapt("metered.rs", OPENED, &changes);
     link_library(&adapt::folder("LIBRARY", "../../target/staticlib"));
 }

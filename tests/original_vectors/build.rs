@@ -25,5 +25,5 @@ pub mod opened {
 ";
 
 fn main() {
-    adapt::adapt(OPENED);
+    adapt::adapt("native.rs", OPENED, &[]);
 }

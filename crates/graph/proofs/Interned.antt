@@ -9,14 +9,14 @@ use native.Mathlib.Nat.{eq-or-lt-of-le, add-zero, min-eq-left, min-le-left}
 use native.Mathlib.Omega.{arith}
 use borrow.Author.Tests.{ltb-true, eqb-true, eq-eqb}
 use lib.Dec.{ltb, eqb}
-use lib.ListN.{length, getD, take, set, length-set}
-use lib.Seq.{paste, length-paste}
+use lib.ListN.{length, getD, take}
 use Rattle.word.proofs.Integer.{lt-or-ge}
 use Rattle.range.specs.Interval.{Interval}
 use Rattle.range.specs.declared.ScalarType.{ScalarType}
 use Rattle.graph.specs.Layout.{WORDS, KEY, LIMIT, REGION, nodeStart, wordAt, countOf}
 use Rattle.graph.specs.Node.{Op, wordsOf}
-use Rattle.graph.specs.Insert.{made, id, room, resolve, sameWords, sameKey, lowest, start, interned, appended, foundOr, inserted}
+use Rattle.graph.specs.Insert.{made, id, resolve, sameWords, sameKey, lowest, start, interned, appended, foundOr, inserted}
+use Rattle.graph.proofs.Nodes.{length-words, appended-length, appended-full}
 use Rattle.graph.proofs.Search.{lowest-end}
 
 -- ---- the lowest number that passes a test
@@ -113,23 +113,12 @@ interned-lowest g o ws l past =
 
 -- ---- a node that is found, and a new one
 
--- a node has as many words
-pub length-words : (t : ScalarType) (r : Option Interval) (o : Op) → length (wordsOf t r o) ≡ WORDS
-unfolding wordsOf
-length-words t r o = refl
-
 pub length-appended : (g ws : List ℕ) → length g ≡ REGION → length ws ≡ WORDS → length (appended g ws .words) ≡ REGION
-unfolding appended
 length-appended g ws l w = by (ltb (countOf g) LIMIT) refl
   where
-    by : (t : Bool) → ltb (countOf g) LIMIT ≡ t
-        → length (cond t (made (id (countOf g)) (set (paste g (nodeStart (countOf g)) ws WORDS) 0 (countOf g + 1))) (made room g) .words) ≡ REGION
-    by true t =
-        let h : countOf g < LIMIT = ltb-true (countOf g) LIMIT t in
-        length-set (paste g (nodeStart (countOf g)) ws WORDS) 0 (countOf g + 1)
-        ∙ length-paste g (nodeStart (countOf g)) ws WORDS (omega arith) (omega arith)
-        ∙ l
-    by false t = l
+    by : (t : Bool) → ltb (countOf g) LIMIT ≡ t → length (appended g ws .words) ≡ REGION
+    by true t = appended-length g ws l w (ltb-true (countOf g) LIMIT t)
+    by false t = rw (appended-full g ws t) l
 
 module _ (g : List ℕ) (t : ScalarType) (r : Option Interval) (o : Op) where
   pub inserted-found : (n : ℕ) → interned g o (wordsOf t r o) ≡ some n → inserted g t r o ≡ made (id (resolve g n)) g

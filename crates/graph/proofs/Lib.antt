@@ -4,3 +4,4 @@ pub mod Tests
 pub mod Grown
 pub mod Search
 pub mod Interned
+pub mod Kept

@@ -1,12 +1,13 @@
 -- Nodes: what a stored node reads, and that the others stay. Assumes nothing.
 use mathlib.Core.Path.{_≡_, refl, sym, ap, _∙_}
+use mathlib.Core.Bool.{false}
 use mathlib.Core.List.{List, _++_}
 use mathlib.Core.Logic.{⊎-elim}
 use mathlib.Core.Option.{Option}
 use Prim.Native.Nat.{ℕ, zero, suc, _+_, _-_, _<_, _≤_}
 use native.Mathlib.Omega.{arith}
 use borrow.Author.Tests.{eq-eqb, ne-eqb, lt-ltb}
-use lib.Dec.{lit<}
+use lib.Dec.{ltb, lit<}
 use lib.ListN.{length, getD, set, take, drop, length-set, List·getD-append}
 use lib.Seq.{paste, getD-take, getD-drop, getD-append-add, getD-set-same, getD-set-other, length-paste, length-paste-head, length-take-le}
 use Rattle.word.proofs.Integer.{lt-or-ge}
@@ -14,6 +15,7 @@ use Rattle.range.specs.Interval.{Interval}
 use Rattle.range.specs.declared.ScalarType.{ScalarType}
 use Rattle.graph.specs.Layout.{WORDS, FIRST, LIMIT, REGION, nodeStart, wordAt, countOf}
 use Rattle.graph.specs.Node.{Op, wordsOf, typeOf, typeAt, rangeOf, rangeAt, operationOf, operationAt, aliasAt, rangeFlag, rangeLow, rangeHigh, pair, nodeAt}
+use Rattle.graph.specs.Insert as insert
 use Rattle.graph.specs.Insert.{id, made, appended, follow}
 use Rattle.graph.proofs.Codes.{Stored, pair-back, type-back, range-back, operation-back}
 
@@ -38,7 +40,7 @@ module _ (d : List ℕ) (at : ℕ) (s : List ℕ) (n : ℕ) (hd : at + n ≤ len
       ∙ ap (λ (j : ℕ). getD (take at d ++ take n s) (j + k) 0) (sym q) ∙ getD-append-add (take at d) (take n s) k 0
       ∙ getD-take n s k 0 h
 
-  paste-below : (i : ℕ) → i < at → getD (paste d at s n) i 0 ≡ getD d i 0
+  pub paste-below : (i : ℕ) → i < at → getD (paste d at s n) i 0 ≡ getD d i 0
   paste-below i h =
       let p : length (take at d ++ take n s) ≡ at + n = length-paste-head d at s n (omega arith) hs in
       let q : length (take at d) ≡ at = length-take-le at d (omega arith) in
@@ -120,6 +122,11 @@ pub appended-made : (g ws : List ℕ) → countOf g < LIMIT
     → appended g ws ≡ made (id (countOf g)) (set (paste g (nodeStart (countOf g)) ws WORDS) 0 (countOf g + 1))
 unfolding appended
 appended-made g ws room = rw (lt-ltb (countOf g) LIMIT room)
+
+-- without room there is none
+pub appended-full : (g ws : List ℕ) → ltb (countOf g) LIMIT ≡ false → appended g ws ≡ made insert.room g
+unfolding appended
+appended-full g ws e = rw e
 
 module _ (g ws : List ℕ) (size : length g ≡ REGION) (all : length ws ≡ WORDS) (room : countOf g < LIMIT) where
   pub appended-length : length (appended g ws .words) ≡ REGION

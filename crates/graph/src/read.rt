@@ -51,7 +51,7 @@ fn range_of(flag: u64, min: Word, max: Word) -> MaybeRange
     })
 }
 
-fn unary_of(code: u64, width: u16) -> Unary
+pub fn unary_of(code: u64, width: u16) -> Unary
     ensures { λ r. ⌜ r ≡ unaryOf code width ⌝ }
 {
     match code {
@@ -65,7 +65,7 @@ fn unary_of(code: u64, width: u16) -> Unary
     }
 }
 
-fn binary_of(code: u64) -> Binary
+pub fn binary_of(code: u64) -> Binary
     ensures { λ r. ⌜ r ≡ binaryOf code ⌝ }
 {
     match code {

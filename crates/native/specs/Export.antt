@@ -1,16 +1,26 @@
 -- The exported calls: types by code and width, answers by number.
-use mathlib.Core.Bool.{cond}
+use mathlib.Core.Bool.{Bool, cond}
 use mathlib.Core.List.{List, [], _∷_}
 use mathlib.Core.Option.{Option, none, some}
 use Prim.Native.Nat.{ℕ, min, _-_, _/_, _%_, _^_}
-use lib.Dec.{eqb}
+use lib.Dec.{eqb, leb}
 use lib.ListN.{length}
-use Rattle.range.specs.Interval.{Interval}
+use Rattle.range.specs.Interval.{Interval, both, one}
 use Rattle.range.specs.declared.ScalarType.{ScalarType}
 use Rattle.range.specs.declared.ScalarType.the-variants as ty
 use Rattle.evaluate.specs.Answer as evaluate
 use Rattle.graph.specs.WellFormed.{isGraph}
 use Rattle.native.specs.Call.{nothing, refused, answerNumber, Called, constantInGraph, inputInGraph, effectInGraph, literalCall}
+use Rattle.word.specs.Value.{only}
+use Rattle.evaluate.specs.declared.Unary.{Unary}
+use Rattle.evaluate.specs.declared.Binary.{Binary}
+use Rattle.graph.specs.Node.{unaryOf, binaryOf}
+use Rattle.native.specs.Request as request
+use Rattle.native.specs.Request.{requestInGraph}
+use Rattle.native.specs.declared.MaybeUnary.{MaybeUnary}
+use Rattle.native.specs.declared.MaybeUnary.the-variants as unaries
+use Rattle.native.specs.declared.MaybeBinary.{MaybeBinary}
+use Rattle.native.specs.declared.MaybeBinary.the-variants as binaries
 use Rattle.native.specs.declared.MaybeType.{MaybeType}
 use Rattle.native.specs.declared.MaybeType.the-variants as named
 
@@ -70,3 +80,61 @@ written (evaluate.refused k) out = exported (answerNumber (refused k)) out
 -- literal, with a slice for the value
 unfoldable pub literalExport : List ℕ → ℕ → List ℕ → Exported
 literalExport g n out = written (literalCall g n) out
+
+-- ---- the builders
+
+-- what a MaybeUnary stands for
+abbrev pub unaryNamed : MaybeUnary → Option Unary
+unaryNamed (unaries.Some o) = some o
+unaryNamed unaries.None = none
+
+-- what a MaybeBinary stands for
+abbrev pub binaryNamed : MaybeBinary → Option Binary
+binaryNamed (binaries.Some o) = some o
+binaryNamed binaries.None = none
+
+-- a width as a u16; a larger one stays past 128
+abbrev pub clamped : ℕ → ℕ
+clamped n = min n (2 ^ 16 - 1)
+
+-- 10 to 16; the first three have no parameter, so it is 0
+abbrev pub isUnary : ℕ → ℕ → Bool
+isUnary code p = both (leb 10 code) (both (leb code 16) (one (leb 13 code) (eqb p 0)))
+
+-- the unary operator of a code and its parameter
+abbrev pub unaryByCode : ℕ → ℕ → Option Unary
+unaryByCode code p = only (isUnary code p) (unaryOf code (clamped p))
+
+-- 20 to 38
+abbrev pub binaryByCode : ℕ → Option Binary
+binaryByCode code = only (both (leb 20 code) (leb code 38)) (binaryOf code)
+
+-- a call with an operator; a code that names none is refused 4
+abbrev pub withOperator : {A : Type 0} → List ℕ → Option A → (A → Called) → Exported
+withOperator g none f = exported (answerNumber (refused 4)) g
+withOperator g (some o) f = numbered (f o)
+
+-- a call with a type and an operator
+abbrev pub withBoth : {A : Type 0} → List ℕ → Option ScalarType → Option A → (ScalarType → A → Called) → Exported
+withBoth g none o f = exported (answerNumber (refused 4)) g
+withBoth g (some t) o f = withOperator g o (f t)
+
+-- unary on a graph
+unfoldable pub unaryExport : List ℕ → ℕ → ℕ → ℕ → ℕ → ℕ → Exported
+unaryExport g code width o p v = withBoth g (typeByCode code width) (unaryByCode o p) (λ t u. requestInGraph g (request.unary t u v))
+
+-- binary on a graph
+unfoldable pub binaryExport : List ℕ → ℕ → ℕ → ℕ → ℕ → ℕ → Exported
+binaryExport g code width o l r = withBoth g (typeByCode code width) (binaryByCode o) (λ t b. requestInGraph g (request.binary t b l r))
+
+-- slice on a graph; an offset past a u16 is past every bit
+unfoldable pub sliceExport : List ℕ → ℕ → ℕ → ℕ → Exported
+sliceExport g v o w = numbered (requestInGraph g (request.slice v (clamped o) (clamped w)))
+
+-- concat on a graph
+unfoldable pub concatExport : List ℕ → ℕ → ℕ → ℕ → ℕ → Exported
+concatExport g h l v w = numbered (requestInGraph g (request.concat h l (clamped v) (clamped w)))
+
+-- unsigned_range on a graph
+unfoldable pub unsignedRangeExport : List ℕ → ℕ → ℕ → ℕ → Exported
+unsignedRangeExport g v low high = numbered (requestInGraph g (request.unsignedRange v low high))

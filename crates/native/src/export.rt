@@ -25,7 +25,7 @@ use range::ScalarType;
 use word::Word;
 
 // A width as a u16; a larger one stays above 128.
-fn clamped_width(width: u64) -> u16
+pub(crate) fn clamped_width(width: u64) -> u16
     ensures { λ r. ⌜ r ≡ min width (2 ^ 16 - 1) ⌝ }
 {
     if width < 65535 {
@@ -35,7 +35,7 @@ fn clamped_width(width: u64) -> u16
     }
 }
 
-fn type_by_code(code: u64, width: u64) -> MaybeType
+pub(crate) fn type_by_code(code: u64, width: u64) -> MaybeType
     ensures { λ r. ⌜ typeOf r ≡ typeByCode code width ⌝ }
 {
     match code {

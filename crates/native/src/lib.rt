@@ -1,12 +1,17 @@
 // The calls: every question in order, then the work. A refusal leaves every lent word as it was.
 pub mod declare;
 pub mod export;
+pub mod export_operate;
 pub mod look;
+pub mod operate;
+pub mod typing;
 
 ghost use mathlib.Core.Path.{_≡_};
 ghost use Rattle.graph.specs.Insert.{builtOf};
 ghost use Rattle.native.specs.Call.{answerOf, settled, answerNumber};
+use evaluate::Binary;
 use evaluate::Refusal;
+use evaluate::Unary;
 use graph::Built;
 use graph::NodeId;
 use range::ScalarType;
@@ -21,6 +26,17 @@ pub enum Answer {
 // A type by its code, if there is one.
 pub enum MaybeType {
     Some(ScalarType),
+    None,
+}
+
+// An operator by its code, if there is one.
+pub enum MaybeUnary {
+    Some(Unary),
+    None,
+}
+
+pub enum MaybeBinary {
+    Some(Binary),
     None,
 }
 

@@ -1,4 +1,4 @@
-// The calls by their kinds: 1 to 3 are document 01's records, 11 to 13 literal, resolve and is_graph, and from 16 on the words are handled.
+// The calls by their kinds: 1 to 8 are document 01's records, 11 to 13 literal, resolve and is_graph, and from 16 on the words are handled.
 use crate::lines::Fields;
 use crate::region::peek;
 use crate::region::poke;
@@ -7,11 +7,14 @@ use evaluate::Evaluated;
 use graph::EffectId;
 use graph::InputId;
 use graph::NodeId;
+use graph::read::binary_of;
+use graph::read::unary_of;
 use graph::well_formed::is_graph;
 use native::Answer;
 use native::MaybeType;
 use native::declare;
 use native::look;
+use native::operate;
 use range::MaybeRange;
 use range::Range;
 use range::ScalarType;
@@ -93,6 +96,43 @@ fn declared(g: &mut [u64], call: Fields) -> Outcome {
     Outcome::Answered(reply)
 }
 
+// An operator by its code: Add for a code that there is not, as a region reads it.
+fn operated(g: &mut [u64], call: Fields) -> Outcome {
+    let named = type_of(call.type_code, call.width);
+    let MaybeType::Some(ty) = named else {
+        return Outcome::Malformed;
+    };
+    let a = call.a;
+    let id = NodeId(call.number);
+    let kind = call.kind;
+    let reply = match kind {
+        4 => {
+            let op = unary_of(call.flag, (a.lo % 65536) as u16);
+            of_answer(operate::unary(g, ty, op, id))
+        }
+        _ => {
+            let op = binary_of(call.flag);
+            of_answer(operate::binary(g, ty, op, id, NodeId(a.lo)))
+        }
+    };
+    Outcome::Answered(reply)
+}
+
+// slice, concat and unsigned_range.
+fn parted(g: &mut [u64], call: Fields) -> Outcome {
+    let a = call.a;
+    let b = call.b;
+    let id = NodeId(call.number);
+    let width = call.width;
+    let kind = call.kind;
+    let reply = match kind {
+        6 => of_answer(operate::slice(g, id, (a.lo % 65536) as u16, width)),
+        7 => of_answer(operate::concat(g, id, NodeId(a.lo), (b.lo % 65536) as u16, width)),
+        _ => of_answer(operate::unsigned_range(g, id, a, b)),
+    };
+    Outcome::Answered(reply)
+}
+
 // The calls that read.
 fn looked(g: &[u64], kind: u64, id: u64) -> Outcome {
     let reply = match kind {
@@ -149,6 +189,8 @@ pub(crate) fn perform(words: &mut [u64], call: Fields) -> Outcome {
     }
     match kind {
         1..=3 => declared(&mut words[0..len], call),
+        4..=5 => operated(&mut words[0..len], call),
+        6..=8 => parted(&mut words[0..len], call),
         11..=13 => looked(&words[0..len], kind, call.number),
         _ => handled(words, call),
     }

@@ -53,7 +53,7 @@ pub fn type_range(ty: ScalarType) -> MaybeRange
 
 impl Range {
     // Does the range lie in Bits(width)? Bits are not negative, and Bits(128) have no other bound.
-    fn is_in_bits(self, width: u16) -> bool
+    pub fn is_in_bits(self, width: u16) -> bool
         ensures { λ r. ⌜ r ≡ insideBits width (boundsOf self) ⌝ }
     {
         let max = self.max;

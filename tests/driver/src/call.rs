@@ -1,5 +1,6 @@
 // The calls and their answers.
-use crate::native::{Range, ScalarType};
+use crate::native::{Binary, Range, ScalarType, Unary};
+use crate::operators::{self, BINARY_CODE, UNARY_CODE};
 
 // A type by its code and width, as a region has it.
 #[derive(Clone, Copy, Debug, PartialEq, Eq)]
@@ -22,6 +23,35 @@ pub enum Call {
     Effect {
         number: u64,
         ty: TypeCode,
+    },
+    // Operators by their codes.
+    Unary {
+        ty: TypeCode,
+        op: u64,
+        parameter: u64,
+        id: u64,
+    },
+    Binary {
+        ty: TypeCode,
+        op: u64,
+        left: u64,
+        right: u64,
+    },
+    Slice {
+        id: u64,
+        offset: u64,
+        width: u64,
+    },
+    Concat {
+        high: u64,
+        low: u64,
+        low_width: u64,
+        width: u64,
+    },
+    UnsignedRange {
+        id: u64,
+        low: u128,
+        high: u128,
     },
     // `room` is the number of words lent for the value.
     Literal {
@@ -54,12 +84,32 @@ pub trait Side {
     fn takes(&self, call: &Call) -> bool;
 }
 
+// A width or an offset as the original has it. A width past 16 bits is refused as any above 128, and an offset past
+// them is as any from 128 on.
+pub fn short(number: u64) -> u16 {
+    u16::try_from(number).unwrap_or(u16::MAX)
+}
+
+// The operator of the code, if there is one. Those without a width have the parameter 0.
+pub fn unary_of(code: u64, parameter: u64) -> Option<Unary> {
+    let place = code.checked_sub(UNARY_CODE.into())?;
+    let operator = *operators::unary(short(parameter)).get(usize::try_from(place).ok()?)?;
+    let is_plain = matches!(operator, Unary::BoolNot | Unary::BitNot | Unary::Negate);
+    (!is_plain || parameter == 0).then_some(operator)
+}
+
+pub fn binary_of(code: u64) -> Option<Binary> {
+    let place = code.checked_sub(BINARY_CODE.into())?;
+    let operator = operators::BINARY.get(usize::try_from(place).ok()?)?;
+    Some(*operator)
+}
+
 impl TypeCode {
-    // The type, if there is one. A width past 16 bits is refused as any above 128.
+    // The type, if there is one.
     pub fn ty(self) -> Option<ScalarType> {
         match (self.code, self.width) {
             (0, 0) => Some(ScalarType::Bool),
-            (1, width) => Some(ScalarType::Bits(u16::try_from(width).unwrap_or(u16::MAX))),
+            (1, width) => Some(ScalarType::Bits(short(width))),
             (2, 0) => Some(ScalarType::Integer),
             _ => None,
         }
@@ -77,28 +127,100 @@ impl From<ScalarType> for TypeCode {
     }
 }
 
+// The kinds of calls by their names.
+pub const KINDS: [&str; 11] = [
+    "constant",
+    "input",
+    "effect",
+    "unary",
+    "binary",
+    "slice",
+    "concat",
+    "unsigned range",
+    "literal",
+    "resolve",
+    "is graph",
+];
+
 impl Call {
-    pub fn ty(&self) -> Option<TypeCode> {
-        match *self {
-            Call::Constant { ty, .. } | Call::Input { ty, .. } | Call::Effect { ty, .. } => {
-                Some(ty)
-            }
-            Call::Literal { .. } | Call::Resolve { .. } | Call::IsGraph => None,
-        }
+    pub fn kind(&self) -> &'static str {
+        let place = match self {
+            Call::Constant { .. } => 0,
+            Call::Input { .. } => 1,
+            Call::Effect { .. } => 2,
+            Call::Unary { .. } => 3,
+            Call::Binary { .. } => 4,
+            Call::Slice { .. } => 5,
+            Call::Concat { .. } => 6,
+            Call::UnsignedRange { .. } => 7,
+            Call::Literal { .. } => 8,
+            Call::Resolve { .. } => 9,
+            Call::IsGraph => 10,
+        };
+        KINDS[place]
     }
 
-    pub fn id(&self) -> Option<u64> {
+    pub fn ty(&self) -> Option<TypeCode> {
         match *self {
-            Call::Literal { id, .. } | Call::Resolve { id } => Some(id),
+            Call::Constant { ty, .. }
+            | Call::Input { ty, .. }
+            | Call::Effect { ty, .. }
+            | Call::Unary { ty, .. }
+            | Call::Binary { ty, .. } => Some(ty),
             _ => None,
         }
     }
 
-    // The most nodes that it can add.
-    pub fn most_added(&self) -> usize {
-        match self {
-            Call::Constant { .. } | Call::Input { .. } | Call::Effect { .. } => 1,
-            Call::Literal { .. } | Call::Resolve { .. } | Call::IsGraph => 0,
+    // Does each code name something, and does no operator have a parameter that it does not take?
+    pub fn is_named(&self) -> bool {
+        let has_type = self.ty().is_none_or(|code| code.ty().is_some());
+        has_type
+            && match *self {
+                Call::Unary { op, parameter, .. } => unary_of(op, parameter).is_some(),
+                Call::Binary { op, .. } => binary_of(op).is_some(),
+                _ => true,
+            }
+    }
+
+    // The widths that it names, that of Bits first and else 0.
+    pub fn widths(&self) -> [u64; 3] {
+        let of_type = self.ty().map_or(0, |ty| ty.width);
+        match *self {
+            Call::Unary { parameter, .. } => [of_type, parameter, 0],
+            Call::Slice { width, .. } => [of_type, width, 0],
+            Call::Concat {
+                low_width, width, ..
+            } => [of_type, low_width, width],
+            _ => [of_type, 0, 0],
         }
+    }
+
+    // The widths beside the type's. An operator that takes none has one only by numbers.
+    pub fn widths_mut(&mut self, has_numbers: bool) -> Vec<&mut u64> {
+        match self {
+            Call::Unary { op, parameter, .. } if *op > 12 || has_numbers => vec![parameter],
+            Call::Slice { width, .. } => vec![width],
+            Call::Concat {
+                low_width, width, ..
+            } => vec![low_width, width],
+            _ => vec![],
+        }
+    }
+
+    pub fn ids_mut(&mut self) -> Vec<&mut u64> {
+        match self {
+            Call::Literal { id, .. }
+            | Call::Resolve { id }
+            | Call::Unary { id, .. }
+            | Call::Slice { id, .. }
+            | Call::UnsignedRange { id, .. } => vec![id],
+            Call::Binary { left, right, .. } => vec![left, right],
+            Call::Concat { high, low, .. } => vec![high, low],
+            _ => vec![],
+        }
+    }
+
+    pub fn ids(mut self) -> Vec<u64> {
+        self.ids_mut().into_iter().map(|id| *id).collect()
     }
 }

@@ -1,12 +1,14 @@
 // The classes of regions, and a round through them.
-use crate::call::Call;
+use crate::call::{Answer, Call};
 use crate::compare::{Comparison, Difference};
 use crate::edges::{self, Step};
 use crate::generate::{Source, Spread};
 use crate::lines::HELD;
-use crate::native::{Graph, opened};
+use crate::meter::Kind;
+use crate::native::{Graph, Scalar, ScalarType, opened};
+use crate::plans::ADD;
 use crate::sweep;
-use crate::words::{LIMIT, REGION, graph_of};
+use crate::words::{LIMIT, REGION, encode, graph_of, readable};
 
 pub const GROWN: &str = "grown";
 pub const FULL: &str = "full";
@@ -19,60 +21,176 @@ pub const EDGES: &str = "edges";
 
 const LENGTHS: [usize; 7] = [0, 1, 2, 13, 6133, REGION - 1, REGION + 1];
 
+// The kind of region by which a class counts sites.
+pub fn kind_of(class: &str) -> Kind {
+    match class {
+        GROWN | FULL => Kind::Grown,
+        OTHER | PASSING => Kind::Other,
+        _ => Kind::Fixed,
+    }
+}
+
 pub type Outcome = Result<(), Box<Difference>>;
 
-pub struct Rounds<'a> {
+// A region that calls have grown, and the graph that the original has grown beside it.
+struct List {
+    region: Vec<u64>,
+    graph: Graph,
+}
+
+pub struct Rounds {
     pub source: Source,
-    pub comparison: Comparison<'a>,
+    pub comparison: Comparison,
     // How often a word of each kind was changed, and how often the region was no graph then.
     pub damages: Vec<[u64; 2]>,
 }
 
-impl Rounds<'_> {
-    fn pick(&mut self, region: &[u64], spread: Spread) -> Call {
+impl Rounds {
+    fn pick(&mut self, scalars: &[Scalar], spread: Spread) -> Call {
         loop {
-            let call = self.source.call(region, spread);
+            let call = self.source.call(scalars, spread);
             if self.comparison.side.takes(&call) {
                 return call;
             }
         }
     }
 
-    // A list of calls from the region of zeros, with the original's own maps.
-    fn grow(&mut self, class: &'static str, calls: usize, spread: Spread) -> Outcome {
+    // Begins a list of calls on a graph that calls have grown, with the original's own maps. Every other list is put to
+    // the tier for regions that are known to be graphs.
+    fn begin(&mut self, class: &'static str, graph: Graph) -> List {
         let mut region = vec![0; REGION];
-        let mut graph = Graph::default();
-        self.comparison.start(class);
+        encode(&graph, &mut region);
+        self.comparison.start(class, &region);
+        self.comparison.is_twin = self.source.random.once_in(2);
+        List { region, graph }
+    }
+
+    // Begins a list on the region of zeros.
+    fn begin_empty(&mut self, class: &'static str) -> List {
+        self.source.start();
+        self.begin(class, Graph::default())
+    }
+
+    fn call_on(&mut self, list: &mut List, call: &Call) -> Result<Answer, Box<Difference>> {
+        let List { region, graph } = list;
+        self.comparison.call_grown(region, graph, call)
+    }
+
+    fn grow(&mut self, list: &mut List, calls: usize, spread: Spread) -> Outcome {
         for _ in 0..calls {
-            let call = self.pick(&region, spread);
-            self.comparison.call_grown(&mut region, &mut graph, &call)?;
+            let call = self.pick(&list.graph.scalars, spread);
+            let answer = self.call_on(list, &call)?;
+            self.source.hear(answer);
         }
-        let filled = graph_of(&region).expect("a grown region is a graph");
-        assert!(
-            opened::has_same_maps(&graph, &filled),
-            "the maps of a grown graph are those filled from its region"
-        );
         Ok(())
     }
 
-    // Fills the graph, and goes on.
-    fn fill(&mut self) -> Outcome {
-        let calls = 3 * LIMIT + self.source.random.below(LIMIT);
-        self.grow(FULL, calls, Spread::Many)
+    // The original's own maps are those that are filled from the region, and its words those compared.
+    fn end(&mut self, list: &List) {
+        let filled = graph_of(&list.region).expect("a grown region is a graph");
+        assert!(
+            opened::has_same_maps(&list.graph, &filled),
+            "the maps of a grown graph are those filled from its region"
+        );
+        let mut words = vec![0; REGION];
+        encode(&list.graph, &mut words);
+        assert!(words == list.region, "the words of a grown graph");
+        self.comparison.is_twin = false;
     }
 
-    fn calls_on(&mut self, class: &'static str, region: &mut [u64], calls: usize) -> Outcome {
-        self.comparison.start(class);
-        for _ in 0..calls {
-            let call = self.pick(region, Spread::Few);
-            self.comparison.call(region, &call)?;
+    fn grown(&mut self) -> Outcome {
+        let mut list = self.begin_empty(GROWN);
+        let calls = 60 + self.source.random.below(400);
+        self.grow(&mut list, calls, Spread::Few)?;
+        self.end(&list);
+        Ok(())
+    }
+
+    // A list in which some value is doubled again and again, so that a reduction of it is dear.
+    fn doubled(&mut self, list: &mut List) -> Result<u64, Box<Difference>> {
+        let width = self.source.width().max(9);
+        let ty = ScalarType::Bits(width).into();
+        let leaf = Call::Effect { number: 0, ty };
+        let mut last = self.call_on(list, &leaf)?;
+        for _ in 0..6 + self.source.random.below(4) {
+            let Answer::Id(id) = last else {
+                return Ok(0);
+            };
+            let call = Call::Binary {
+                ty,
+                op: ADD,
+                left: id,
+                right: id,
+            };
+            last = self.call_on(list, &call)?;
         }
+        match last {
+            Answer::Id(id) => Ok(id),
+            _ => Ok(0),
+        }
+    }
+
+    // Grows a graph, fills it up to a little room, and goes on: so a call is refused 7 in the middle of its work, and
+    // refused 7 or 8 where it would meet both.
+    fn fill(&mut self) -> Outcome {
+        let mut list = self.begin_empty(FULL);
+        let calls = self.source.random.below(200);
+        self.grow(&mut list, calls, Spread::Few)?;
+        let dear = self.doubled(&mut list)?;
+        let room = self.source.random.below(16);
+        let mut number = 0;
+        while list.graph.scalars.len() < LIMIT - room {
+            let ty = self.source.known_type().into();
+            self.call_on(&mut list, &Call::Effect { number, ty })?;
+            number += 1;
+        }
+        for width in [self.source.width().into(), 7] {
+            let reduction = Call::Slice {
+                id: dear,
+                offset: 0,
+                width,
+            };
+            self.call_on(&mut list, &reduction)?;
+        }
+        let calls = 100 + self.source.random.below(200);
+        self.grow(&mut list, calls, Spread::Many)?;
+        self.end(&list);
+        Ok(())
+    }
+
+    // A list on a graph that is nearly full: at first with calls for which there is hardly enough room.
+    fn nearly_full(&mut self) -> Outcome {
+        let graph = self.source.full_graph();
+        let mut list = self.begin(FULL, graph);
+        for _ in 0..12 {
+            let call = self.source.heavy(&list.graph.scalars);
+            self.call_on(&mut list, &call)?;
+        }
+        self.grow(&mut list, 12, Spread::Few)?;
+        self.end(&list);
+        Ok(())
+    }
+
+    // Calls on a region, up to one that leaves no graph.
+    fn calls_on(&mut self, class: &'static str, region: &mut [u64], calls: usize) -> Outcome {
+        self.comparison.start(class, region);
+        self.comparison.is_twin = self.source.random.once_in(2);
+        self.source.look_at(region);
+        for _ in 0..calls {
+            let call = self.pick(&readable(region), Spread::Few);
+            let answer = self.comparison.call(region, &call)?;
+            self.source.hear(answer);
+            if answer == Answer::Refused(1) {
+                break;
+            }
+        }
+        self.comparison.is_twin = false;
         Ok(())
     }
 
     fn each_call_on(&mut self, class: &'static str, region: &mut [u64]) -> Outcome {
-        self.comparison.start(class);
-        for call in self.source.calls(region) {
+        self.comparison.start(class, region);
+        for call in self.source.calls(&readable(region)) {
             if self.comparison.side.takes(&call) {
                 self.comparison.call(region, &call)?;
             }
@@ -81,8 +199,8 @@ impl Rounds<'_> {
     }
 
     fn good_region(&mut self) -> Vec<u64> {
-        if self.source.random.once_in(2) {
-            self.source.region()
+        if self.source.random.once_in(3) {
+            self.source.other_region()
         } else {
             self.source.grown_region()
         }
@@ -109,11 +227,11 @@ impl Rounds<'_> {
     // What does not depend on the seed.
     pub fn fixed(&mut self) -> Outcome {
         for mut region in sweep::regions() {
-            self.comparison.start(SWEPT);
+            self.comparison.start(SWEPT, &region);
             self.comparison.call(&mut region, &Call::IsGraph)?;
         }
         let mut held = vec![0; HELD];
-        self.comparison.start(EDGES);
+        self.comparison.start(EDGES, &held);
         for step in edges::steps() {
             match step {
                 Step::Region(region) => {
@@ -121,6 +239,7 @@ impl Rounds<'_> {
                     held[..region.len()].copy_from_slice(&region);
                 }
                 Step::Call(len, call) => {
+                    self.comparison.place(&held[..len]);
                     self.comparison.call(&mut held[..len], &call)?;
                 }
                 Step::Look(_) => {}
@@ -130,13 +249,15 @@ impl Rounds<'_> {
     }
 
     pub fn round(&mut self, number: u64) -> Outcome {
-        let calls = 10 + self.source.random.below(60);
-        self.grow(GROWN, calls, Spread::Few)?;
-        if number.is_multiple_of(100) {
+        self.grown()?;
+        self.nearly_full()?;
+        if number.is_multiple_of(50) {
             self.fill()?;
         }
-        let mut region = self.source.region();
-        self.calls_on(OTHER, &mut region, 16)?;
+        for _ in 0..5 {
+            let mut region = self.source.other_region();
+            self.calls_on(OTHER, &mut region, 16)?;
+        }
         let good = self.good_region();
         for _ in 0..8 {
             self.damage(&good)?;

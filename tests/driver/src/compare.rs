@@ -1,8 +1,10 @@
 // Puts a call to both sides, compares the answers and every word, and counts. A difference is made small and told.
 use crate::call::{Answer, Call, Side};
+use crate::classes;
+use crate::meter;
 use crate::native::Graph;
 use crate::original::{Original, apply};
-use crate::words::{LIMIT, REGION, WORDS, encode, start_of};
+use crate::words::{LIMIT, REGION, WORDS, encode_from, start_of};
 use std::collections::BTreeMap;
 use std::fmt::Write;
 use std::ops::Range;
@@ -12,7 +14,8 @@ use std::ops::Range;
 pub struct Counts {
     pub regions: u64,
     pub calls: u64,
-    pub answers: BTreeMap<String, u64>,
+    pub answers: BTreeMap<&'static str, u64>,
+    pub kinds: BTreeMap<&'static str, u64>,
 }
 
 // A call that the two sides answer or perform differently.
@@ -21,29 +24,45 @@ pub struct Difference {
     call: Call,
     right: (Answer, Vec<u64>),
     found: (Answer, Vec<u64>),
+    is_twin: bool,
 }
 
-pub struct Comparison<'a> {
-    pub side: &'a mut dyn Side,
+pub struct Comparison {
+    pub side: Box<dyn Side>,
+    // The side's tier for regions that are known to be graphs, and whether the list at hand is put to it.
+    pub twin: Option<Box<dyn Side>>,
+    pub is_twin: bool,
     pub counts: BTreeMap<&'static str, Counts>,
     class: &'static str,
-    before: Vec<u64>,
+    // The words as the original has them: before a call those of the region, after it those that must be there.
     right: Vec<u64>,
 }
 
-fn name_of(before: &[u64], call: &Call, answer: Answer) -> String {
-    let count = before.first().copied().unwrap_or(0);
+const REFUSALS: [&str; 9] = [
+    "refused 0",
+    "refused 1",
+    "refused 2",
+    "refused 3",
+    "refused 4",
+    "refused 5",
+    "refused 6",
+    "refused 7",
+    "refused 8",
+];
+
+// The answer's name, where the region had so many nodes.
+fn name_of(count: u64, call: &Call, answer: Answer) -> &'static str {
     match (call, answer) {
-        (Call::Resolve { id }, Answer::Id(other)) if *id == other => "resolved to itself".into(),
-        (Call::Resolve { .. }, Answer::Id(_)) => "resolved".into(),
-        (_, Answer::Id(id)) if id == count => "new node".into(),
-        (_, Answer::Id(_)) => "old node".into(),
-        (_, Answer::Value(_)) => "value".into(),
-        (_, Answer::None) => "none".into(),
-        (_, Answer::Refused(number)) => format!("refused {number}"),
-        (_, Answer::Is(true)) => "is a graph".into(),
-        (_, Answer::Is(false)) => "is no graph".into(),
-        (_, Answer::Spoilt) => "spoilt".into(),
+        (Call::Resolve { id }, Answer::Id(other)) if *id == other => "resolved to itself",
+        (Call::Resolve { .. }, Answer::Id(_)) => "resolved",
+        (_, Answer::Id(id)) if id >= count => "new node",
+        (_, Answer::Id(_)) => "old node",
+        (_, Answer::Value(_)) => "value",
+        (_, Answer::None) => "none",
+        (_, Answer::Refused(number)) => REFUSALS[number as usize],
+        (_, Answer::Is(true)) => "is a graph",
+        (_, Answer::Is(false)) => "is no graph",
+        (_, Answer::Spoilt) => "spoilt",
     }
 }
 
@@ -78,8 +97,9 @@ fn described(region: &[u64]) -> String {
 impl Difference {
     pub fn described(&self) -> String {
         let mut text = format!("call: {:?}\non:\n{}", self.call, described(&self.region));
+        let tier = if self.is_twin { " in graph" } else { "" };
         let _ = writeln!(text, "original: {:?}", self.right.0);
-        let _ = writeln!(text, "compared: {:?}", self.found.0);
+        let _ = writeln!(text, "compared{tier}: {:?}", self.found.0);
         for (at, (right, found)) in self.right.1.iter().zip(&self.found.1).enumerate() {
             if right != found {
                 let [right, found] = [right, found].map(|word| shown(&[*word]));
@@ -90,28 +110,62 @@ impl Difference {
     }
 }
 
-impl<'a> Comparison<'a> {
-    pub fn new(side: &'a mut dyn Side) -> Self {
+impl Comparison {
+    pub fn new(side: Box<dyn Side>, twin: Option<Box<dyn Side>>) -> Self {
         Comparison {
             side,
+            twin,
+            is_twin: false,
             counts: BTreeMap::new(),
             class: "",
-            before: vec![],
             right: vec![],
         }
     }
 
     // What follows is about another region.
-    pub fn start(&mut self, class: &'static str) {
+    pub fn start(&mut self, class: &'static str, region: &[u64]) {
+        meter::count_as(classes::kind_of(class));
         self.class = class;
         self.counts.entry(class).or_default().regions += 1;
+        self.place(region);
     }
 
-    fn count(&mut self, call: &Call, answer: Answer) {
-        let name = name_of(&self.before, call, answer);
+    // The region's words are these now.
+    pub fn place(&mut self, region: &[u64]) {
+        self.right.clear();
+        self.right.extend_from_slice(region);
+    }
+
+    fn count(&mut self, call: &Call, answer: Answer, before: u64) {
+        let name = match answer {
+            Answer::None if self.right.first() != Some(&before) => "none, nodes kept",
+            Answer::Refused(7) if meter::stored() > 0 => "refused 7, nodes taken back",
+            Answer::Refused(8) if meter::stored() > 0 => "refused 8, nodes taken back",
+            _ => name_of(before, call, answer),
+        };
         let counts = self.counts.entry(self.class).or_default();
         counts.calls += 1;
         *counts.answers.entry(name).or_default() += 1;
+        *counts.kinds.entry(call.kind()).or_default() += 1;
+    }
+
+    // The words before the call that left them as they are now: it can only have added nodes to this count.
+    fn before(&self, count: u64) -> Vec<u64> {
+        let mut before = self.right.clone();
+        if before.first().is_some_and(|now| *now != count) {
+            let [start, end] = [count, before[0]].map(|count| start_of(count as usize));
+            before[start..end].fill(0);
+            before[0] = count;
+        }
+        before
+    }
+
+    // Puts the call to the tier of the list. What is no graph is not put to the twin.
+    fn ask(&mut self, region: &mut [u64], call: &Call, right: Answer) -> Answer {
+        match &mut self.twin {
+            Some(twin) if self.is_twin && right != Answer::Refused(1) => twin.call(region, call),
+            _ => self.side.call(region, call),
+        }
     }
 
     // Compares the call on the region with what the original answers and leaves in `self.right`.
@@ -120,28 +174,28 @@ impl<'a> Comparison<'a> {
         region: &mut [u64],
         call: &Call,
         right: Answer,
+        count: u64,
     ) -> Result<Answer, Box<Difference>> {
-        let found = self.side.call(region, call);
+        let found = self.ask(region, call, right);
         if found == right && region == self.right {
-            self.count(call, right);
+            self.count(call, right, count);
             return Ok(right);
         }
         let difference = Difference {
-            region: self.before.clone(),
+            region: self.before(count),
             call: *call,
             right: (right, self.right.clone()),
             found: (found, region.to_vec()),
+            is_twin: self.is_twin,
         };
         Err(Box::new(self.smaller(difference)))
     }
 
-    // A call on a region, from which the original's maps are filled.
+    // A call on the region that was placed, from which the original's maps are filled.
     pub fn call(&mut self, region: &mut [u64], call: &Call) -> Result<Answer, Box<Difference>> {
-        self.before.clear();
-        self.before.extend_from_slice(region);
-        self.right.clone_from(&self.before);
+        let count = self.right.first().copied().unwrap_or(0);
         let right = Original.call(&mut self.right, call);
-        self.settle(region, call, right)
+        self.settle(region, call, right, count)
     }
 
     // A call on a region that calls have grown, and on the graph that the original has grown beside it.
@@ -151,12 +205,10 @@ impl<'a> Comparison<'a> {
         graph: &mut Graph,
         call: &Call,
     ) -> Result<Answer, Box<Difference>> {
-        self.before.clear();
-        self.before.extend_from_slice(region);
+        let count = graph.scalars.len();
         let right = apply(graph, call);
-        self.right.resize(REGION, 0);
-        encode(graph, &mut self.right);
-        self.settle(region, call, right)
+        encode_from(graph, count, &mut self.right);
+        self.settle(region, call, right, count as u64)
     }
 
     // The difference on this region, if there is one where the maps are filled from it.
@@ -164,12 +216,13 @@ impl<'a> Comparison<'a> {
         let mut right = region.to_vec();
         let mut found = region.to_vec();
         let right_answer = Original.call(&mut right, call);
-        let found_answer = self.side.call(&mut found, call);
+        let found_answer = self.ask(&mut found, call, right_answer);
         (right_answer != found_answer || right != found).then(|| Difference {
             region: region.to_vec(),
             call: *call,
             right: (right_answer, right),
             found: (found_answer, found),
+            is_twin: self.is_twin,
         })
     }
 

@@ -1,6 +1,8 @@
 // The edges that document 01 names, as a list of calls.
 use crate::call::Call;
+use crate::examples;
 use crate::native::{Operation, Range, Scalar, ScalarType};
+use crate::questions;
 use crate::words::{LIMIT, REGION, WORDS, node_words, start_of};
 use ScalarType::{Bits, Bool, Integer};
 
@@ -15,12 +17,12 @@ pub enum Step {
 
 struct Steps(Vec<Step>);
 
-fn constant(ty: ScalarType, value: u128) -> Call {
+pub fn constant(ty: ScalarType, value: u128) -> Call {
     let ty = ty.into();
     Call::Constant { ty, value }
 }
 
-fn input(number: u64, ty: ScalarType, range: Option<(i128, i128)>) -> Call {
+pub fn input(number: u64, ty: ScalarType, range: Option<(i128, i128)>) -> Call {
     Call::Input {
         number,
         ty: ty.into(),
@@ -28,7 +30,7 @@ fn input(number: u64, ty: ScalarType, range: Option<(i128, i128)>) -> Call {
     }
 }
 
-fn effect(number: u64, ty: ScalarType) -> Call {
+pub fn effect(number: u64, ty: ScalarType) -> Call {
     let ty = ty.into();
     Call::Effect { number, ty }
 }
@@ -41,18 +43,30 @@ fn resolve(id: u64) -> Call {
     Call::Resolve { id }
 }
 
-fn region_of(nodes: &[(ScalarType, Operation, Option<usize>)]) -> Vec<u64> {
+// A region of these nodes with their aliases.
+pub fn region_of(nodes: &[(Scalar, Option<usize>)]) -> Vec<u64> {
     let mut region = vec![0; REGION];
     region[0] = nodes.len() as u64;
-    for (id, (ty, operation, alias)) in nodes.iter().enumerate() {
-        let scalar = Scalar {
-            ty: *ty,
-            range: None,
-            operation: operation.clone(),
-        };
-        region[start_of(id)..][..WORDS].copy_from_slice(&node_words(&scalar, *alias));
+    for (id, (scalar, alias)) in nodes.iter().enumerate() {
+        region[start_of(id)..][..WORDS].copy_from_slice(&node_words(scalar, *alias));
     }
     region
+}
+
+// A region of nodes without ranges.
+fn plain_region(nodes: &[(ScalarType, Operation, Option<usize>)]) -> Vec<u64> {
+    let nodes: Vec<_> = nodes
+        .iter()
+        .map(|(ty, operation, alias)| {
+            let scalar = Scalar {
+                ty: *ty,
+                range: None,
+                operation: operation.clone(),
+            };
+            (scalar, *alias)
+        })
+        .collect();
+    region_of(&nodes)
 }
 
 impl Steps {
@@ -193,7 +207,7 @@ impl Steps {
     // Regions that no calls could have grown.
     fn others(&mut self) {
         let five = Operation::Constant(5);
-        self.0.push(Step::Region(region_of(&[
+        self.0.push(Step::Region(plain_region(&[
             (Bool, five.clone(), None),
             (Bits(8), Operation::Constant(300), None),
         ])));
@@ -201,7 +215,7 @@ impl Steps {
         self.calls(&[constant(Bits(8), 300), constant(Bool, 1)]);
         // The lowest of equal nodes is found, and its alias followed.
         let input = |number| Operation::Input(number);
-        self.0.push(Step::Region(region_of(&[
+        self.0.push(Step::Region(plain_region(&[
             (Integer, input(7), Some(2)),
             (Integer, input(7), None),
             (Bits(8), five.clone(), Some(3)),
@@ -233,7 +247,7 @@ impl Steps {
             fields.push([4, 1, 127, width]);
             fields.push([13, 1, 0, width]);
         }
-        let mut region = region_of(&[const { (Bool, Operation::Constant(0), None) }; 4]);
+        let mut region = plain_region(&[const { (Bool, Operation::Constant(0), None) }; 4]);
         for words in fields {
             region[start_of(2) + 7..][..4].copy_from_slice(&words);
             self.0.push(Step::Region(region.clone()));
@@ -243,7 +257,7 @@ impl Steps {
 
     // Each kind of word changed in turn. Question 1 comes before all others.
     fn damages(&mut self) {
-        let good = region_of(&[
+        let good = plain_region(&[
             (Bits(8), Operation::Constant(5), None),
             (Bits(8), Operation::Input(0), Some(2)),
             (Bits(8), Operation::Refine(1), None),
@@ -271,5 +285,7 @@ pub fn steps() -> Vec<Step> {
     steps.others();
     steps.operations();
     steps.damages();
+    steps.0.extend(questions::steps());
+    steps.0.extend(examples::steps());
     steps.0
 }

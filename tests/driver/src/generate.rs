@@ -1,8 +1,8 @@
-// Random calls.
-use crate::call::{Call, TypeCode};
-use crate::native::{Operation, Range, ScalarType};
+// Random calls: leaves and looks, and the choice among all kinds. The builders are in builders.rs.
+use crate::call::{Answer, Call, TypeCode};
+use crate::native::{Operation, Range, Scalar, ScalarType};
+use crate::plans::Plan;
 use crate::random::Random;
-use crate::words::{LIMIT, WORDS, read_node, start_of};
 
 pub const WIDTHS: [u16; 9] = [0, 1, 7, 8, 63, 64, 65, 127, 128];
 const WIDE: [u64; 3] = [129, 255, 65535];
@@ -62,9 +62,14 @@ pub struct Source {
     pub random: Random,
     // Also what only numbers can say: types that there are not, and other lengths of lent words.
     pub has_numbers: bool,
+    // The widths of the list at hand, few so that nodes meet.
+    pub widths: Vec<u16>,
+    // The nodes of the region at hand as no builders have stored them.
+    pub odd: Vec<usize>,
+    pub plan: Plan,
 }
 
-fn mask(width: u16) -> u128 {
+pub fn mask(width: u16) -> u128 {
     u128::MAX.unbounded_shr(128u32.saturating_sub(width.into()))
 }
 
@@ -86,16 +91,49 @@ fn bottom(ty: ScalarType) -> i128 {
 }
 
 impl Source {
+    pub fn new(seed: u64, has_numbers: bool) -> Self {
+        Source {
+            random: Random(seed),
+            has_numbers,
+            widths: WIDTHS.to_vec(),
+            odd: vec![],
+            plan: Plan::default(),
+        }
+    }
+
+    // Chooses the widths of another list. 8 and 16 are in most.
+    pub fn start(&mut self) {
+        self.plan = Plan::default();
+        self.odd.clear();
+        self.widths.clear();
+        for width in [8, 16] {
+            if !self.random.once_in(6) {
+                self.widths.extend([width; 2]);
+            }
+        }
+        for _ in 0..1 + self.random.below(3) {
+            let width = match self.random.below(4) {
+                0 => self.random.below(129) as u16,
+                _ => self.random.pick(&WIDTHS),
+            };
+            self.widths.push(width);
+        }
+    }
+
+    pub fn width(&mut self) -> u16 {
+        self.random.pick(&self.widths)
+    }
+
     pub fn known_type(&mut self) -> ScalarType {
         match self.random.below(10) {
-            0 | 1 => ScalarType::Bool,
-            2 | 3 => ScalarType::Integer,
-            _ => ScalarType::Bits(self.random.pick(&WIDTHS)),
+            0 => ScalarType::Bool,
+            1..4 => ScalarType::Integer,
+            _ => ScalarType::Bits(self.width()),
         }
     }
 
     fn type_code(&mut self) -> TypeCode {
-        if self.random.once_in(12) {
+        if self.random.once_in(30) {
             let width = self.random.pick(&WIDE);
             return TypeCode { code: 1, width };
         }
@@ -107,15 +145,34 @@ impl Source {
         self.known_type().into()
     }
 
-    fn pattern(&mut self, ty: ScalarType, spread: Spread) -> u128 {
+    // Ones from one bit up to another.
+    fn field(&mut self, width: u16) -> u128 {
+        let [a, b] = [0; 2].map(|_| self.random.below(usize::from(width) + 1) as u16);
+        mask(a.max(b)) & !mask(a.min(b))
+    }
+
+    // A value for a constant of the type, mostly one that folds have to do with.
+    pub fn pattern(&mut self, ty: ScalarType, spread: Spread) -> u128 {
         if spread == Spread::Many {
             return self.random.below(1500) as u128;
         }
-        match (ty, self.random.below(8)) {
-            (ScalarType::Bool, 0..7) => self.random.below(3) as u128,
-            (ScalarType::Bits(width), 0) => mask(width),
-            (ScalarType::Bits(width), 1) => mask(width).wrapping_add(1),
-            (_, 2) => self.random.pattern(),
+        if ty == ScalarType::Bool {
+            return self.random.pick(&[0, 0, 0, 1, 1, 1, 1, 2]);
+        }
+        let width = match ty {
+            ScalarType::Bits(width) => width.min(128),
+            _ => self.width(),
+        };
+        match self.random.below(16) {
+            0 => mask(width),
+            1 => mask(width).wrapping_add(1),
+            2 => self.random.pattern(),
+            3 => 1 << self.random.below(usize::from(width.clamp(1, 128))),
+            4 | 5 => self.field(width),
+            6 => !self.field(width) & mask(width),
+            7 => (self.random.below(9) as u128).wrapping_neg(),
+            8..13 => self.random.below(10) as u128,
+            13 => self.random.below(130) as u128,
             _ => self.random.pick(&PATTERNS),
         }
     }
@@ -130,10 +187,14 @@ impl Source {
     // Two ends in order, from the type's smallest number to its largest.
     pub fn inside(&mut self, ty: ScalarType) -> Range {
         let (bottom, top) = (bottom(ty), top(ty));
-        let mut end = || match self.random.below(4) {
-            0 => bottom,
-            1 => top,
-            _ => self.random.pick(&ENDS).clamp(bottom, top),
+        let whole = mask(self.width()) as i128;
+        let mut end = || match self.random.below(9) {
+            0 | 1 => bottom,
+            2 | 3 => top,
+            8 => whole.clamp(bottom, top),
+            4 => self.random.pick(&ENDS).clamp(bottom, top),
+            5 => (-(self.random.below(20) as i128)).clamp(bottom, top),
+            _ => (self.random.below(20) as i128).clamp(bottom, top),
         };
         let (a, b) = (end(), end());
         Range {
@@ -171,7 +232,7 @@ impl Source {
     }
 
     // Mostly an id of the region.
-    fn id(&mut self, count: u64) -> u64 {
+    pub fn id(&mut self, count: u64) -> u64 {
         if count > 0 && !self.random.once_in(8) {
             return self.random.next() % count;
         }
@@ -191,28 +252,25 @@ impl Source {
         }
     }
 
-    // The call that a node of the region could be the answer to.
-    fn call_of_node(&mut self, region: &[u64]) -> Option<Call> {
-        let count = region[0].min(LIMIT as u64) as usize;
-        if count == 0 || region.len() < start_of(count) {
+    // The call that a node of the graph could be the answer to.
+    fn call_of_node(&mut self, scalars: &[Scalar]) -> Option<Call> {
+        if scalars.is_empty() {
             return None;
         }
-        let id = self.random.below(count);
-        let node = read_node(&region[start_of(id)..][..WORDS])?;
-        let ty = node.scalar.ty.into();
-        let given = node.scalar.range;
-        match node.scalar.operation {
+        let scalar = &scalars[self.random.below(scalars.len())];
+        let ty = scalar.ty.into();
+        match scalar.operation {
             Operation::Constant(value) => Some(Call::Constant { ty, value }),
             Operation::Input(number) => Some(Call::Input {
                 number: number as u64,
                 ty,
-                range: given.filter(|_| !self.random.once_in(4)),
+                range: scalar.range.filter(|_| !self.random.once_in(4)),
             }),
             Operation::Effect(number) => Some(Call::Effect {
                 number: number as u64,
                 ty,
             }),
-            _ => None,
+            _ => self.builder_of_node(scalar),
         }
     }
 
@@ -248,37 +306,60 @@ impl Source {
         Call::Resolve { id }
     }
 
-    fn declaration(&mut self, spread: Spread) -> Call {
-        match self.random.below(3) {
-            0 => self.constant(spread),
-            1 => self.input(spread),
+    pub fn declaration(&mut self, spread: Spread) -> Call {
+        match self.random.below(8) {
+            0..4 => self.constant(spread),
+            4..7 => self.input(spread),
             _ => self.effect(spread),
         }
     }
 
-    // A call on the region. It may be one of any length.
-    pub fn call(&mut self, region: &[u64], spread: Spread) -> Call {
-        let count = region.first().copied().unwrap_or(0);
-        match self.random.below(12) {
+    // A call on a graph with these nodes. Once it is answered, the source has to hear it.
+    pub fn call(&mut self, scalars: &[Scalar], spread: Spread) -> Call {
+        if let Some(call) = self.plan.next() {
+            return call;
+        }
+        if self.random.once_in(8) {
+            self.begin_plan(scalars);
+        }
+        self.single(scalars, spread)
+    }
+
+    pub fn hear(&mut self, answer: Answer) {
+        self.plan.hear(answer);
+    }
+
+    // A call by itself.
+    fn single(&mut self, scalars: &[Scalar], spread: Spread) -> Call {
+        let count = scalars.len() as u64;
+        let is_small = scalars.len() < 6;
+        match self.random.below(40) {
             0 => self.literal(count),
             1 => self.resolve(count),
             2 => Call::IsGraph,
-            3..6 if !region.is_empty() => match self.call_of_node(region) {
+            3..7 => match self.call_of_node(scalars) {
                 Some(call) => call,
                 None => self.declaration(spread),
             },
-            _ => self.declaration(spread),
+            7..14 => self.declaration(spread),
+            14..26 if is_small => self.declaration(spread),
+            _ => self.builder(scalars),
         }
     }
 
     // One call of each kind.
-    pub fn calls(&mut self, region: &[u64]) -> Vec<Call> {
-        let count = region.first().copied().unwrap_or(0);
+    pub fn calls(&mut self, scalars: &[Scalar]) -> Vec<Call> {
+        let count = scalars.len() as u64;
         vec![
             Call::IsGraph,
             self.constant(Spread::Few),
             self.input(Spread::Few),
             self.effect(Spread::Few),
+            self.unary(scalars),
+            self.binary_itself(scalars),
+            self.slice(scalars),
+            self.concat(scalars),
+            self.unsigned_range(scalars),
             self.literal(count),
             self.resolve(count),
         ]

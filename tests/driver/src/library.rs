@@ -2,29 +2,70 @@
 use crate::call::{Answer, Call, Side};
 use crate::words::{halves, joined};
 
+// The functions that have a twin for a caller that knows the region to be a graph.
+#[derive(Clone, Copy)]
+struct Tier {
+    constant: unsafe extern "C" fn(*mut u64, usize, u64, u64, u64, u64) -> u64,
+    input: unsafe extern "C" fn(*mut u64, usize, u64, u64, u64, u64, u64, u64, u64, u64) -> u64,
+    effect: unsafe extern "C" fn(*mut u64, usize, u64, u64, u64) -> u64,
+    unary: unsafe extern "C" fn(*mut u64, usize, u64, u64, u64, u64, u64) -> u64,
+    binary: unsafe extern "C" fn(*mut u64, usize, u64, u64, u64, u64, u64) -> u64,
+    slice: unsafe extern "C" fn(*mut u64, usize, u64, u64, u64) -> u64,
+    concat: unsafe extern "C" fn(*mut u64, usize, u64, u64, u64, u64) -> u64,
+    unsigned_range: unsafe extern "C" fn(*mut u64, usize, u64, u64, u64, u64, u64) -> u64,
+}
+
+macro_rules! twins {
+    ($($name:ident / $twin:ident ($($word:ident),*);)*) => {
+        unsafe extern "C" {
+            $(
+                fn $name(g: *mut u64, len: usize, $($word: u64),*) -> u64;
+                fn $twin(g: *mut u64, len: usize, $($word: u64),*) -> u64;
+            )*
+        }
+    };
+}
+
+twins! {
+    scalars_constant / scalars_constant_in_graph (code, width, low, high);
+    scalars_input / scalars_input_in_graph
+        (number, code, width, flag, min_low, min_high, max_low, max_high);
+    scalars_effect / scalars_effect_in_graph (number, code, width);
+    scalars_unary / scalars_unary_in_graph (code, width, operator, parameter, id);
+    scalars_binary / scalars_binary_in_graph (code, width, operator, left, right);
+    scalars_slice / scalars_slice_in_graph (id, offset, width);
+    scalars_concat / scalars_concat_in_graph (high, low, low_width, width);
+    scalars_unsigned_range / scalars_unsigned_range_in_graph
+        (id, low_low, low_high, high_low, high_high);
+}
+
 unsafe extern "C" {
-    fn scalars_constant(g: *mut u64, len: usize, code: u64, width: u64, low: u64, high: u64)
-    -> u64;
-    fn scalars_input(
-        g: *mut u64,
-        len: usize,
-        number: u64,
-        code: u64,
-        width: u64,
-        flag: u64,
-        min_low: u64,
-        min_high: u64,
-        max_low: u64,
-        max_high: u64,
-    ) -> u64;
-    fn scalars_effect(g: *mut u64, len: usize, number: u64, code: u64, width: u64) -> u64;
-    fn scalars_effect_in_graph(g: *mut u64, len: usize, number: u64, code: u64, width: u64) -> u64;
     fn scalars_literal(g: *const u64, len: usize, id: u64, out: *mut u64, out_len: usize) -> u64;
     fn scalars_resolve(g: *const u64, len: usize, id: u64) -> u64;
     fn scalars_is_graph(g: *const u64, len: usize) -> u64;
 }
 
-pub struct Library;
+const ASKING: Tier = Tier {
+    constant: scalars_constant,
+    input: scalars_input,
+    effect: scalars_effect,
+    unary: scalars_unary,
+    binary: scalars_binary,
+    slice: scalars_slice,
+    concat: scalars_concat,
+    unsigned_range: scalars_unsigned_range,
+};
+
+const IN_GRAPH: Tier = Tier {
+    constant: scalars_constant_in_graph,
+    input: scalars_input_in_graph,
+    effect: scalars_effect_in_graph,
+    unary: scalars_unary_in_graph,
+    binary: scalars_binary_in_graph,
+    slice: scalars_slice_in_graph,
+    concat: scalars_concat_in_graph,
+    unsigned_range: scalars_unsigned_range_in_graph,
+};
 
 // Stands in lent words that a call must leave alone.
 const MARK: u64 = 0x5ca1_ab1e_5ca1_ab1e;
@@ -59,39 +100,82 @@ fn literal(region: &[u64], id: u64, room: usize) -> Answer {
     answer_of(number)
 }
 
+impl Tier {
+    // SAFETY: the caller of the twins makes the region a graph. The slice is passed whole.
+    unsafe fn leaf(&self, region: &mut [u64], call: &Call) -> Option<u64> {
+        let (g, len) = (region.as_mut_ptr(), region.len());
+        Some(match *call {
+            Call::Constant { ty, value } => {
+                let [low, high] = halves(value);
+                unsafe { (self.constant)(g, len, ty.code, ty.width, low, high) }
+            }
+            Call::Input { number, ty, range } => {
+                let [a, b] = halves(range.map_or(0, |range| range.min as u128));
+                let [c, d] = halves(range.map_or(0, |range| range.max as u128));
+                let flag = range.is_some().into();
+                unsafe { (self.input)(g, len, number, ty.code, ty.width, flag, a, b, c, d) }
+            }
+            Call::Effect { number, ty } => unsafe {
+                (self.effect)(g, len, number, ty.code, ty.width)
+            },
+            _ => return None,
+        })
+    }
+
+    // SAFETY: as for the leaves.
+    unsafe fn builder(&self, region: &mut [u64], call: &Call) -> Option<u64> {
+        let (g, len) = (region.as_mut_ptr(), region.len());
+        Some(match *call {
+            Call::Unary {
+                ty,
+                op,
+                parameter,
+                id,
+            } => unsafe { (self.unary)(g, len, ty.code, ty.width, op, parameter, id) },
+            Call::Binary {
+                ty,
+                op,
+                left,
+                right,
+            } => unsafe { (self.binary)(g, len, ty.code, ty.width, op, left, right) },
+            Call::Slice { id, offset, width } => unsafe { (self.slice)(g, len, id, offset, width) },
+            Call::Concat {
+                high,
+                low,
+                low_width,
+                width,
+            } => unsafe { (self.concat)(g, len, high, low, low_width, width) },
+            Call::UnsignedRange { id, low, high } => {
+                let ([a, b], [c, d]) = (halves(low), halves(high));
+                unsafe { (self.unsigned_range)(g, len, id, a, b, c, d) }
+            }
+            _ => return None,
+        })
+    }
+
+    // SAFETY: as for the leaves.
+    unsafe fn call(&self, region: &mut [u64], call: &Call) -> Answer {
+        let number =
+            unsafe { self.leaf(region, call) }.or_else(|| unsafe { self.builder(region, call) });
+        if let Some(number) = number {
+            return answer_of(number);
+        }
+        let (g, len) = (region.as_ptr(), region.len());
+        match *call {
+            Call::Literal { id, room } => literal(region, id, room),
+            Call::Resolve { id } => answer_of(unsafe { scalars_resolve(g, len, id) }),
+            _ => Answer::Is(unsafe { scalars_is_graph(g, len) } == 1),
+        }
+    }
+}
+
+// The functions that ask question 1 themselves.
+pub struct Library;
+
 impl Side for Library {
     fn call(&mut self, region: &mut [u64], call: &Call) -> Answer {
-        let (g, len) = (region.as_mut_ptr(), region.len());
-        // SAFETY: the slice is passed whole, and the functions ask nothing else of their caller.
-        let number = unsafe {
-            match *call {
-                Call::Constant { ty, value } => {
-                    let [low, high] = halves(value);
-                    scalars_constant(g, len, ty.code, ty.width, low, high)
-                }
-                Call::Input { number, ty, range } => {
-                    let [min_low, min_high] = halves(range.map_or(0, |range| range.min as u128));
-                    let [max_low, max_high] = halves(range.map_or(0, |range| range.max as u128));
-                    scalars_input(
-                        g,
-                        len,
-                        number,
-                        ty.code,
-                        ty.width,
-                        range.is_some().into(),
-                        min_low,
-                        min_high,
-                        max_low,
-                        max_high,
-                    )
-                }
-                Call::Effect { number, ty } => scalars_effect(g, len, number, ty.code, ty.width),
-                Call::Resolve { id } => scalars_resolve(g, len, id),
-                Call::Literal { id, room } => return literal(region, id, room),
-                Call::IsGraph => return Answer::Is(scalars_is_graph(g, len) == 1),
-            }
-        };
-        answer_of(number)
+        // SAFETY: these functions ask nothing of their caller.
+        unsafe { ASKING.call(region, call) }
     }
 
     fn takes(&self, _: &Call) -> bool {
@@ -99,18 +183,13 @@ impl Side for Library {
     }
 }
 
-// The twin of `effect` for a caller that knows the region to be a graph; other calls as the library has them.
+// The twins for a caller that knows the region to be a graph; calls without a twin as the library has them.
 pub struct InGraph;
 
 impl Side for InGraph {
     fn call(&mut self, region: &mut [u64], call: &Call) -> Answer {
-        let Call::Effect { number, ty } = *call else {
-            return Library.call(region, call);
-        };
-        // SAFETY: the slice is passed whole, and the caller made it a graph.
-        answer_of(unsafe {
-            scalars_effect_in_graph(region.as_mut_ptr(), region.len(), number, ty.code, ty.width)
-        })
+        // SAFETY: the caller made the region a graph.
+        unsafe { IN_GRAPH.call(region, call) }
     }
 
     fn takes(&self, _: &Call) -> bool {

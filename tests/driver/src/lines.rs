@@ -1,21 +1,31 @@
 // The text that the program native_vectors reads and writes.
 use crate::call::{Answer, Call, TypeCode};
+use crate::words::joined;
 
 // The words that the program holds: the region and one word past its end.
 pub const HELD: usize = 6146;
 
-const CONSTANT: u8 = 1;
-const INPUT: u8 = 2;
-const EFFECT: u8 = 3;
-const LITERAL: u8 = 11;
-const RESOLVE: u8 = 12;
-const IS_GRAPH: u8 = 13;
-const RESET: u8 = 16;
-const POKE: u8 = 17;
-const PEEK: u8 = 18;
+// The kinds of lines by their numbers.
+#[derive(Clone, Copy)]
+enum Kind {
+    Constant = 1,
+    Input = 2,
+    Effect = 3,
+    Unary = 4,
+    Binary = 5,
+    Slice = 6,
+    Concat = 7,
+    UnsignedRange = 8,
+    Literal = 11,
+    Resolve = 12,
+    IsGraph = 13,
+    Reset = 16,
+    Poke = 17,
+    Peek = 18,
+}
 
 struct Line {
-    kind: u8,
+    kind: Kind,
     len: usize,
     number: u64,
     ty: TypeCode,
@@ -25,7 +35,7 @@ struct Line {
 }
 
 impl Line {
-    fn new(kind: u8, len: usize, number: u64) -> Self {
+    fn new(kind: Kind, len: usize, number: u64) -> Self {
         Line {
             kind,
             len,
@@ -35,6 +45,20 @@ impl Line {
             a: 0,
             b: 0,
         }
+    }
+
+    fn of(self, ty: TypeCode, flag: u8) -> Self {
+        Line { ty, flag, ..self }
+    }
+
+    // A width without a type.
+    fn wide(self, width: u64) -> Self {
+        self.of(TypeCode { code: 0, width }, 0)
+    }
+
+    fn with<T: Into<u128>>(self, a: T, b: T) -> Self {
+        let (a, b) = (a.into(), b.into());
+        Line { a, b, ..self }
     }
 
     fn text(self) -> String {
@@ -48,52 +72,85 @@ impl Line {
             b,
         } = self;
         let TypeCode { code, width } = ty;
+        let kind = kind as u8;
         format!(
             "{kind:02x} {len:04x} {number:016x} {code:02x} {width:04x} {flag:02x} {a:032x} {b:032x}\n"
         )
     }
 }
 
+fn builder_line(call: &Call, len: usize) -> Option<Line> {
+    let line = |kind, number| Line::new(kind, len, number);
+    Some(match *call {
+        Call::Unary {
+            ty,
+            op,
+            parameter,
+            id,
+        } => line(Kind::Unary, id).of(ty, op as u8).with(parameter, 0),
+        Call::Binary {
+            ty,
+            op,
+            left,
+            right,
+        } => line(Kind::Binary, left).of(ty, op as u8).with(right, 0),
+        Call::Slice { id, offset, width } => line(Kind::Slice, id).wide(width).with(offset, 0),
+        Call::Concat {
+            high,
+            low,
+            low_width,
+            width,
+        } => line(Kind::Concat, high).wide(width).with(low, low_width),
+        Call::UnsignedRange { id, low, high } => line(Kind::UnsignedRange, id).with(low, high),
+        _ => return None,
+    })
+}
+
+fn leaf_line(call: &Call, len: usize) -> Option<Line> {
+    let line = |kind, number| Line::new(kind, len, number);
+    Some(match *call {
+        Call::Constant { ty, value } => line(Kind::Constant, 0).of(ty, 0).with(value, 0),
+        Call::Input { number, ty, range } => {
+            let min = range.map_or(0, |range| range.min as u128);
+            let max = range.map_or(0, |range| range.max as u128);
+            let flag = range.is_some().into();
+            line(Kind::Input, number).of(ty, flag).with(min, max)
+        }
+        Call::Effect { number, ty } => line(Kind::Effect, number).of(ty, 0),
+        Call::Literal { id, .. } => line(Kind::Literal, id),
+        Call::Resolve { id } => line(Kind::Resolve, id),
+        Call::IsGraph => line(Kind::IsGraph, 0),
+        _ => return None,
+    })
+}
+
 // A call on the first words of those held.
 pub fn call_line(call: &Call, len: usize) -> String {
-    let line = match *call {
-        Call::Constant { ty, value } => Line {
-            ty,
-            a: value,
-            ..Line::new(CONSTANT, len, 0)
-        },
-        Call::Input { number, ty, range } => Line {
-            ty,
-            flag: range.is_some().into(),
-            a: range.map_or(0, |range| range.min as u128),
-            b: range.map_or(0, |range| range.max as u128),
-            ..Line::new(INPUT, len, number)
-        },
-        Call::Effect { number, ty } => Line {
-            ty,
-            ..Line::new(EFFECT, len, number)
-        },
-        Call::Literal { id, .. } => Line::new(LITERAL, len, id),
-        Call::Resolve { id } => Line::new(RESOLVE, len, id),
-        Call::IsGraph => Line::new(IS_GRAPH, len, 0),
-    };
-    line.text()
+    let line = leaf_line(call, len).or_else(|| builder_line(call, len));
+    line.expect("every call has a line").text()
+}
+
+// Can a line say it? A line has no place for codes that name nothing, and widths and offsets of 16 bits.
+pub fn has_line(call: &Call) -> bool {
+    let is_short = |number: &u64| *number < 1 << 16;
+    call.is_named()
+        && call.widths().iter().all(is_short)
+        && match call {
+            Call::Slice { offset, .. } => is_short(offset),
+            Call::Literal { room, .. } => *room == 2,
+            _ => true,
+        }
 }
 
 // Sets every word to 0.
 fn reset_line() -> String {
-    Line::new(RESET, 0, 0).text()
+    Line::new(Kind::Reset, 0, 0).text()
 }
 
 // Sets four words.
 fn poke_line(at: usize, words: &[u64]) -> String {
-    let word = |i: usize| u128::from(words[at + i]);
-    Line {
-        a: word(1) << 64 | word(0),
-        b: word(3) << 64 | word(2),
-        ..Line::new(POKE, 0, at as u64)
-    }
-    .text()
+    let [a, b] = [0, 2].map(|i| joined(words[at + i], words[at + i + 1]));
+    Line::new(Kind::Poke, 0, at as u64).with(a, b).text()
 }
 
 // Has the region at the start of the words held, which it changes, and gives the lines that do this.
@@ -121,7 +178,7 @@ pub fn place_lines(region: &[u64], held: &mut [u64]) -> Vec<String> {
 
 // Asks for four words.
 pub fn peek_line(at: usize) -> String {
-    Line::new(PEEK, 0, at as u64).text()
+    Line::new(Kind::Peek, 0, at as u64).text()
 }
 
 // The sum of the words, and above it the sum of the sums on the way.

@@ -1,24 +1,39 @@
 // Compares the proved library with the original on random calls: the answers, and every word after every call.
-// usage: driver [--program PATH] [SEED [ROUNDS]]   or   driver times   or   driver vectors FOLDER
+// usage: driver [--program PATH | self] [SEED [ROUNDS]]   or   driver times   or   driver vectors FOLDER
+mod builders;
 mod call;
+mod chains;
 mod classes;
 mod compare;
 mod edges;
+mod examples;
 mod generate;
 #[cfg(library)]
 mod library;
 mod lines;
+mod meter;
+// The original with its entries, stores and sites told to `meter`.
 #[allow(dead_code)]
 mod native {
-    include!(concat!(env!("OUT_DIR"), "/native.rs"));
+    include!(concat!(env!("OUT_DIR"), "/metered.rs"));
 }
 #[path = "../../original/operators.rs"]
 mod operators;
 mod original;
+// The original as it is.
+#[allow(dead_code)]
+mod plain {
+    include!(concat!(env!("OUT_DIR"), "/plain.rs"));
+}
+mod plans;
 mod program;
+mod questions;
 mod random;
 mod regions;
 mod report;
+// The build reads more of it.
+#[allow(dead_code)]
+mod sites;
 mod sweep;
 mod times;
 mod vectors;
@@ -28,8 +43,8 @@ use call::Side;
 use classes::Rounds;
 use compare::Comparison;
 use generate::Source;
+use original::Original;
 use program::Program;
-use random::Random;
 use regions::WORD_KINDS;
 use std::env;
 use std::process::ExitCode;
@@ -66,14 +81,17 @@ fn number(text: &str) -> u64 {
     parsed.unwrap_or_else(|_| panic!("{text} is no number"))
 }
 
-fn compare(side: &mut dyn Side, has_numbers: bool, seed: u64, rounds: u64) -> ExitCode {
+fn compare(
+    side: Box<dyn Side>,
+    twin: Option<Box<dyn Side>>,
+    has_numbers: bool,
+    seed: u64,
+    rounds: u64,
+) -> ExitCode {
     println!("seed {seed:#x}, {rounds} rounds\n");
     let mut all = Rounds {
-        source: Source {
-            random: Random(seed),
-            has_numbers,
-        },
-        comparison: Comparison::new(side),
+        source: Source::new(seed, has_numbers),
+        comparison: Comparison::new(side, twin),
         damages: vec![[0; 2]; WORD_KINDS.len()],
     };
     let mut compared = all.fixed();
@@ -96,10 +114,10 @@ fn compare(side: &mut dyn Side, has_numbers: bool, seed: u64, rounds: u64) -> Ex
 fn main() -> ExitCode {
     let args: Vec<String> = env::args().skip(1).collect();
     let args: Vec<&str> = args.iter().map(String::as_str).collect();
-    let run = |side: &mut dyn Side, has_numbers, args: &[&str]| {
+    let run = |side: Box<dyn Side>, twin: Option<Box<dyn Side>>, has_numbers, args: &[&str]| {
         let seed = args.first().map_or(SEED, |text| number(text));
         let rounds = args.get(1).map_or(ROUNDS, |text| number(text));
-        compare(side, has_numbers, seed, rounds)
+        compare(side, twin, has_numbers, seed, rounds)
     };
     match args.as_slice() {
         ["vectors", folder] => {
@@ -110,9 +128,11 @@ fn main() -> ExitCode {
             times::print(library().as_mut(), twin().as_mut());
             ExitCode::SUCCESS
         }
-        ["--program", path, rest @ ..] => run(&mut Program::new(path), false, rest),
+        // The original on a graph filled from the region, against the graph that it has grown.
+        ["self", rest @ ..] => run(Box::new(Original), None, true, rest),
+        ["--program", path, rest @ ..] => run(Box::new(Program::new(path)), None, false, rest),
         rest => {
-            let code = run(library().as_mut(), true, rest);
+            let code = run(library(), Some(twin()), true, rest);
             if code == ExitCode::SUCCESS {
                 println!();
                 times::print(library().as_mut(), twin().as_mut());

@@ -1,30 +1,107 @@
 // The original's side: the questions that it does not ask, in document 01's order, and then its own work.
-use crate::call::{Answer, Call, Side};
-use crate::native::{Graph, ScalarType};
-use crate::words::{LIMIT, encode, graph_of, is_range_of};
+use crate::call::{Answer, Call, Side, binary_of, short, unary_of};
+use crate::meter;
+use crate::native::{Binary, Graph, ScalarType, Unary, opened};
+use crate::words::{encode_from, graph_of, is_range_of};
+use ScalarType::{Bits, Bool, Integer};
+use std::panic::{AssertUnwindSafe, catch_unwind};
 
 pub struct Original;
 
-// Questions 2 to 5: the number of the first that is answered no.
-fn refused(graph: &Graph, call: &Call) -> Option<u64> {
-    if let Some(code) = call.ty() {
-        let Some(ty) = code.ty() else {
-            return Some(4);
-        };
-        if matches!(ty, ScalarType::Bits(width) if width > 128) {
-            return Some(2);
+fn is_unary_typed(operator: Unary, operand: ScalarType, result: ScalarType) -> bool {
+    match operator {
+        Unary::BoolNot => operand == Bool && result == Bool,
+        Unary::BitNot => matches!(operand, Bits(_)) && result == operand,
+        Unary::Negate => operand == Integer && result == Integer,
+        Unary::Truncate(width) => result == Bits(width),
+        Unary::SignExtend(width) => {
+            let is_wide = matches!(result, Bits(other) if other >= width);
+            operand == Bits(width) && (result == Integer || is_wide)
         }
-        let is_given = match *call {
-            Call::Constant { value, .. } => ty != ScalarType::Bool || value <= 1,
-            Call::Input { range, .. } => range.is_none_or(|range| is_range_of(range, ty)),
-            _ => true,
-        };
-        if !is_given {
-            return Some(5);
+        Unary::LeadingZeros(width) | Unary::TrailingZeros(width) => {
+            operand == Bits(width) && result != Bool
         }
     }
+}
+
+fn is_binary_typed(
+    operator: Binary,
+    left: ScalarType,
+    right: ScalarType,
+    result: ScalarType,
+) -> bool {
+    use Binary::*;
+    match operator {
+        Add | Sub | Mul | DivideSigned | RemainderSigned | DivideUnsigned | RemainderUnsigned => {
+            left == result && right == result && result != Bool
+        }
+        And | Or | Xor => left == result && right == result,
+        ShiftLeft | ShiftRight | ArithmeticShiftRight => {
+            left == result && result != Bool && right != Bool
+        }
+        Equal | NotEqual | LessSigned | LessUnsigned | LessEqualSigned | LessEqualUnsigned => {
+            left == right && result == Bool
+        }
+    }
+}
+
+// Question 4. A type code that there is not never gets here.
+fn is_typed(graph: &Graph, call: &Call) -> bool {
+    let of = |id: u64| graph.scalars[id as usize].ty;
+    let result = call.ty().and_then(|code| code.ty());
+    match *call {
+        Call::Unary {
+            op, parameter, id, ..
+        } => unary_of(op, parameter)
+            .zip(result)
+            .is_some_and(|(operator, result)| is_unary_typed(operator, of(id), result)),
+        Call::Binary {
+            op, left, right, ..
+        } => binary_of(op).zip(result).is_some_and(|(operator, result)| {
+            is_binary_typed(operator, of(left), of(right), result)
+        }),
+        Call::Concat {
+            high,
+            low,
+            low_width,
+            width,
+        } => {
+            low_width <= width
+                && of(high) == Bits(short(width - low_width))
+                && of(low) == Bits(short(low_width))
+        }
+        _ => true,
+    }
+}
+
+// Question 5.
+fn is_given(call: &Call) -> bool {
+    let Some(ty) = call.ty().and_then(|code| code.ty()) else {
+        return true;
+    };
+    match *call {
+        Call::Constant { value, .. } => ty != Bool || value <= 1,
+        Call::Input { range, .. } => range.is_none_or(|range| is_range_of(range, ty)),
+        _ => true,
+    }
+}
+
+// Questions 2 to 5: the number of the first that is answered no. A code that names nothing is refused before them.
+fn refused(graph: &Graph, call: &Call) -> Option<u64> {
     let count = graph.scalars.len() as u64;
-    call.id().filter(|id| *id >= count).map(|_| 3)
+    if !call.is_named() {
+        return Some(4);
+    }
+    if call.widths().iter().any(|width| *width > 128) {
+        return Some(2);
+    }
+    if call.ids().iter().any(|id| *id >= count) {
+        return Some(3);
+    }
+    if !is_typed(graph, call) {
+        return Some(4);
+    }
+    (!is_given(call)).then_some(5)
 }
 
 fn value_of(value: Option<u128>, room: usize) -> Answer {
@@ -35,34 +112,55 @@ fn value_of(value: Option<u128>, room: usize) -> Answer {
     }
 }
 
-fn work(graph: &mut Graph, call: &Call) -> Answer {
-    let ty = call.ty().and_then(|code| code.ty());
-    let ty = ty.unwrap_or(ScalarType::Bool);
-    let id = match *call {
-        Call::Constant { value, .. } => graph.constant(ty, value),
-        Call::Input { number, range, .. } => graph.input(number as usize, ty, range),
-        Call::Effect { number, .. } => graph.effect(number as usize, ty),
-        Call::Resolve { id } => graph.resolve(id as usize),
-        Call::Literal { id, room } => return value_of(graph.literal(id as usize), room),
-        Call::IsGraph => return Answer::Is(true),
-    };
-    Answer::Id(id as u64)
+// The id that a builder answers.
+fn built(graph: &mut Graph, call: &Call) -> Option<usize> {
+    let ty = call.ty().and_then(|code| code.ty()).unwrap_or(Bool);
+    match *call {
+        Call::Constant { value, .. } => Some(graph.constant(ty, value)),
+        Call::Input { number, range, .. } => Some(graph.input(number as usize, ty, range)),
+        Call::Effect { number, .. } => Some(graph.effect(number as usize, ty)),
+        Call::Unary {
+            op, parameter, id, ..
+        } => graph.unary(ty, unary_of(op, parameter)?, id as usize),
+        Call::Binary {
+            op, left, right, ..
+        } => graph.binary(ty, binary_of(op)?, left as usize, right as usize),
+        Call::Slice { id, offset, width } => {
+            Some(graph.slice(id as usize, short(offset), short(width)))
+        }
+        Call::Concat {
+            high,
+            low,
+            low_width,
+            width,
+        } => Some(graph.concat(high as usize, low as usize, short(low_width), short(width))),
+        Call::UnsignedRange { id, low, high } => graph.unsigned_range(id as usize, low, high),
+        Call::Resolve { id } => Some(graph.resolve(id as usize)),
+        Call::Literal { .. } | Call::IsGraph => None,
+    }
 }
 
-// The answer to a call on a graph. Question 7 is put once the work is done, and a no takes it back.
+fn work(graph: &mut Graph, call: &Call) -> Answer {
+    match *call {
+        Call::Literal { id, room } => value_of(graph.literal(id as usize), room),
+        Call::IsGraph => Answer::Is(true),
+        _ => built(graph, call).map_or(Answer::None, |id| Answer::Id(id as u64)),
+    }
+}
+
+// The answer to a call on a graph. Questions 7 and 8 end the work in its middle, and it is taken back.
 pub fn apply(graph: &mut Graph, call: &Call) -> Answer {
     if let Some(number) = refused(graph, call) {
         return Answer::Refused(number);
     }
-    let is_near = graph.scalars.len() + call.most_added() > LIMIT;
-    let before = is_near.then(|| graph.clone());
-    let answer = work(graph, call);
-    match before {
-        Some(before) if graph.scalars.len() > LIMIT => {
-            *graph = before;
-            Answer::Refused(7)
+    let count = graph.scalars.len();
+    meter::start();
+    match catch_unwind(AssertUnwindSafe(|| work(graph, call))) {
+        Ok(answer) => answer,
+        Err(payload) => {
+            opened::put_back(graph, count);
+            Answer::Refused(meter::refusal(payload))
         }
-        _ => answer,
     }
 }
 
@@ -75,8 +173,9 @@ impl Side for Original {
                 _ => Answer::Refused(1),
             };
         };
+        let count = graph.scalars.len();
         let answer = apply(&mut graph, call);
-        encode(&graph, region);
+        encode_from(&graph, count, region);
         answer
     }
 

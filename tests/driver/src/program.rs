@@ -1,7 +1,9 @@
 // The program native_vectors as a side: it is sent the words that differ from those that it holds, and then the call.
 use crate::call::{Answer, Call, Side};
-use crate::lines::{DONE, HELD, call_line, peek_line, place_lines, read_answer, read_words, sums};
-use crate::words::{LIMIT, WORDS, start_of};
+use crate::lines::{
+    DONE, HELD, call_line, has_line, peek_line, place_lines, read_answer, read_words, sums,
+};
+use crate::words::{LIMIT, start_of};
 use std::io::{BufRead, BufReader, BufWriter, Write};
 use std::process::{Child, ChildStdin, ChildStdout, Command, Stdio};
 
@@ -74,15 +76,14 @@ impl Program {
         }
     }
 
-    // Reads back what a call changed: the count and the last node, or else everything.
+    // Reads back what a call changed: the count and the new nodes, or else everything.
     fn refresh(&mut self, expected: u128) {
+        let count_of = |held: &[u64]| held[0].min(LIMIT as u64) as usize;
+        let before = count_of(&self.held);
         self.fetch(&[0]);
-        let count = self.held[0].min(LIMIT as u64) as usize;
-        if count > 0 {
-            let start = start_of(count - 1);
-            let places: Vec<usize> = (start..start + WORDS).step_by(4).collect();
-            self.fetch(&places);
-        }
+        let [start, end] = [before, count_of(&self.held)].map(start_of);
+        let places: Vec<usize> = (start..end).step_by(4).collect();
+        self.fetch(&places);
         if sums(&self.held) != expected {
             let mut places: Vec<usize> = (0..HELD - 4).step_by(4).collect();
             places.push(HELD - 4);
@@ -106,10 +107,6 @@ impl Side for Program {
     }
 
     fn takes(&self, call: &Call) -> bool {
-        let is_typed = call
-            .ty()
-            .is_none_or(|ty| ty.ty().is_some() && ty.width < 1 << 16);
-        let is_roomy = !matches!(call, Call::Literal { room, .. } if *room != 2);
-        is_typed && is_roomy
+        has_line(call)
     }
 }

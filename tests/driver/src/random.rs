@@ -1,14 +1,10 @@
-// Random numbers by SplitMix64, and choices from them.
-pub struct Random(pub u64);
+// Choices from random numbers.
+#[path = "../../original/splitmix.rs"]
+mod splitmix;
+
+pub use splitmix::Random;
 
 impl Random {
-    pub fn next(&mut self) -> u64 {
-        self.0 = self.0.wrapping_add(0x9e37_79b9_7f4a_7c15);
-        let x = (self.0 ^ (self.0 >> 30)).wrapping_mul(0xbf58_476d_1ce4_e5b9);
-        let x = (x ^ (x >> 27)).wrapping_mul(0x94d0_49bb_1331_11eb);
-        x ^ (x >> 31)
-    }
-
     pub fn below(&mut self, limit: usize) -> usize {
         (self.next() % limit as u64) as usize
     }
@@ -24,7 +20,6 @@ impl Random {
 
     // A pattern of a random bit length.
     pub fn pattern(&mut self) -> u128 {
-        let bits = (u128::from(self.next()) << 64) | u128::from(self.next());
-        bits.unbounded_shr(self.below(129) as u32)
+        self.bits().unbounded_shr(self.below(129) as u32)
     }
 }

@@ -1,7 +1,11 @@
 // What was compared, as text, and what a whole run must have met.
+use crate::call::KINDS;
 use crate::classes::{DAMAGED, EDGES, FULL, GROWN, LENGTH, OTHER, PASSING, Rounds, SWEPT};
-use crate::compare::Comparison;
+use crate::compare::{Comparison, Counts};
+use crate::meter::{Kind, hits};
 use crate::regions::WORD_KINDS;
+use crate::sites::{Reach, sites};
+use std::collections::BTreeMap;
 
 const CLASSES: [(&str, &str); 8] = [
     (EDGES, "the edges of document 01"),
@@ -15,7 +19,16 @@ const CLASSES: [(&str, &str); 8] = [
 ];
 
 // The answers that a whole run must have met, by class.
-const MET: [(&str, &[&str]); 6] = [
+const MET: [(&str, &[&str]); 7] = [
+    (
+        EDGES,
+        &[
+            "none, nodes kept",
+            "refused 7",
+            "refused 7, nodes taken back",
+            "refused 8, nodes taken back",
+        ],
+    ),
     (
         GROWN,
         &[
@@ -26,11 +39,23 @@ const MET: [(&str, &[&str]); 6] = [
             "resolved to itself",
             "refused 2",
             "refused 3",
+            "refused 4",
             "refused 5",
+            "refused 8, nodes taken back",
             "is a graph",
         ],
     ),
-    (FULL, &["new node", "old node", "refused 7"]),
+    (
+        FULL,
+        &[
+            "new node",
+            "old node",
+            "none",
+            "refused 7",
+            "refused 7, nodes taken back",
+            "refused 8, nodes taken back",
+        ],
+    ),
     (
         OTHER,
         &[
@@ -38,21 +63,26 @@ const MET: [(&str, &[&str]); 6] = [
             "old node",
             "value",
             "none",
+            "none, nodes kept",
             "resolved",
             "resolved to itself",
+            "refused 1",
             "refused 2",
             "refused 3",
+            "refused 4",
             "refused 5",
             "refused 7",
+            "refused 7, nodes taken back",
+            "refused 8",
+            "refused 8, nodes taken back",
         ],
     ),
     (DAMAGED, &["refused 1", "is no graph"]),
-    (PASSING, &["new node", "old node", "is a graph"]),
+    (PASSING, &["new node", "old node", "none", "is a graph"]),
     (LENGTH, &["refused 1", "is no graph"]),
 ];
 
-pub fn print(rounds: &Rounds) {
-    let counts = &rounds.comparison.counts;
+fn print_classes(counts: &BTreeMap<&'static str, Counts>) {
     println!("| class | regions | calls | answers |");
     println!("|---|---|---|---|");
     for (class, name) in CLASSES {
@@ -68,26 +98,96 @@ pub fn print(rounds: &Rounds) {
         println!("| {name} | {regions} | {calls} | {} |", answers.join(", "));
     }
     println!();
+}
+
+fn print_kinds(counts: &BTreeMap<&'static str, Counts>) {
+    println!("| class | {} |", KINDS.join(" | "));
+    println!("|{}", "---|".repeat(KINDS.len() + 1));
+    for (class, name) in CLASSES {
+        let Some(counts) = counts.get(class) else {
+            continue;
+        };
+        let calls = KINDS.map(|kind| counts.kinds.get(kind).copied().unwrap_or(0).to_string());
+        println!("| {name} | {} |", calls.join(" | "));
+    }
+    println!();
+}
+
+fn print_damages(damages: &[[u64; 2]]) {
     println!("| word changed | regions | no graph then |");
     println!("|---|---|---|");
-    for (kind, [all, failed]) in WORD_KINDS.iter().zip(&rounds.damages) {
+    for (kind, [all, failed]) in WORD_KINDS.iter().zip(damages) {
         println!("| {kind} | {all} | {failed} |");
     }
     println!();
+}
+
+fn print_sites() {
+    println!("| site | text | hits on grown graphs | on other regions | reached |");
+    println!("|---|---|---|---|---|");
+    for (number, site) in sites().enumerate() {
+        let [grown, other] = [Kind::Grown, Kind::Other].map(|kind| hits(kind, number));
+        let reach = match site.reach {
+            Reach::Grown => "grown".to_string(),
+            Reach::Other(reason) => format!("other: {reason}"),
+            Reach::Never(reason) => format!("never: {reason}"),
+        };
+        let (name, text) = (site.name(), site.text());
+        println!("| {name} | `{text}` | {grown} | {other} | {reach} |");
+    }
+    println!();
+}
+
+// The sites that were not come to where they must be, and those that were where it is said that they can't be.
+fn wrong_sites() -> Vec<String> {
+    let mut wrong = vec![];
+    for (number, site) in sites().enumerate() {
+        let [grown, other] = [Kind::Grown, Kind::Other].map(|kind| hits(kind, number) > 0);
+        let (is_met, is_surprise) = match site.reach {
+            Reach::Grown => (grown, false),
+            Reach::Other(_) => (other, grown),
+            Reach::Never(_) => (true, grown || other),
+        };
+        if !is_met {
+            wrong.push(site.name());
+        }
+        if is_surprise {
+            wrong.push(format!("a reason not to come to {}", site.name()));
+        }
+    }
+    wrong
+}
+
+pub fn print(rounds: &Rounds) {
+    let counts = &rounds.comparison.counts;
+    print_classes(counts);
+    print_kinds(counts);
+    print_damages(&rounds.damages);
+    print_sites();
     let calls: u64 = counts.values().map(|counts| counts.calls).sum();
     println!("{calls} calls compared, no difference");
+}
+
+// The kinds of calls that a class must have met.
+fn missing_kinds(class: &str, counts: &Counts) -> Vec<String> {
+    let is_missing = |kind: &&&str| !counts.kinds.contains_key(**kind);
+    let kinds = KINDS.iter().filter(is_missing);
+    kinds.map(|kind| format!("{class}: {kind}")).collect()
 }
 
 // What was never met, of all that a whole run must have.
 pub fn missing(comparison: &Comparison) -> Vec<String> {
     let mut missing = vec![];
+    let none = Counts::default();
     for (class, names) in MET {
+        let counts = comparison.counts.get(class).unwrap_or(&none);
         for name in names {
-            let counts = comparison.counts.get(class);
-            if counts.is_none_or(|counts| !counts.answers.contains_key(*name)) {
+            if !counts.answers.contains_key(name) {
                 missing.push(format!("{class}: {name}"));
             }
         }
+        missing.extend(missing_kinds(class, counts));
     }
+    missing.extend(wrong_sites());
     missing
 }

@@ -1,19 +1,102 @@
-// How long a call takes on each side, by the number of nodes. The calls are `effect`, the thinnest over `insert`.
-use crate::call::{Call, Side, TypeCode};
-use crate::native::{Graph, ScalarType};
+// How long a call takes on each side, by the number of nodes: `effect`, the thinnest over `insert`, and each builder.
+// The original is timed as it is, not the metered one.
+use crate::call::{Call, Side};
+use crate::native;
+use crate::original::apply;
+use crate::plain::{Binary, Graph, ScalarType, Unary};
 use crate::words::{REGION, encode};
+use ScalarType::{Bits, Integer};
 use std::hint::black_box;
 use std::time::Instant;
 
 // The last is a full graph.
 const NODES: [usize; 4] = [16, 128, 500, 512];
+const BUILDER_NODES: [usize; 3] = [16, 128, 500];
 const NEW: usize = 10;
 const COPIES: usize = 8;
 const CALLS: usize = 4_000;
 // The smallest of so many measurements is taken.
 const TIMES: usize = 30;
 
-const INTEGER: TypeCode = TypeCode { code: 2, width: 0 };
+// A call as both sides have it, on nodes of Bits(16).
+#[derive(Clone, Copy)]
+enum Work {
+    Effect(usize),
+    Leaf(usize),
+    Unary(usize),
+    Binary(usize),
+    Slice(usize),
+    Concat(usize),
+    UnsignedRange(usize),
+}
+
+// A builder by its name, and its call on a node and the one after it.
+type Builder = (&'static str, fn(usize) -> Work);
+
+const BUILDERS: [Builder; 5] = [
+    ("unary", Work::Unary),
+    ("binary", Work::Binary),
+    ("slice", Work::Slice),
+    ("concat", Work::Concat),
+    ("unsigned range", Work::UnsignedRange),
+];
+
+impl Work {
+    fn on(self, graph: &mut Graph) -> Option<usize> {
+        match self {
+            Work::Effect(number) => Some(graph.effect(number, Integer)),
+            Work::Leaf(number) => Some(graph.effect(number, Bits(16))),
+            Work::Unary(id) => graph.unary(Bits(16), Unary::BitNot, id),
+            Work::Binary(id) => graph.binary(Bits(16), Binary::Add, id, id + 1),
+            Work::Slice(id) => Some(graph.slice(id, 4, 8)),
+            Work::Concat(id) => Some(graph.concat(id, id + 1, 16, 32)),
+            Work::UnsignedRange(id) => graph.unsigned_range(id, 3, 200),
+        }
+    }
+
+    fn call(self) -> Call {
+        let bits = native::ScalarType::Bits(16).into();
+        let effect = |number, ty| Call::Effect { number, ty };
+        match self {
+            Work::Effect(number) => effect(number as u64, native::ScalarType::Integer.into()),
+            Work::Leaf(number) => effect(number as u64, bits),
+            Work::Unary(id) => Call::Unary {
+                ty: bits,
+                op: 11,
+                parameter: 0,
+                id: id as u64,
+            },
+            Work::Binary(id) => Call::Binary {
+                ty: bits,
+                op: 20,
+                left: id as u64,
+                right: id as u64 + 1,
+            },
+            Work::Slice(id) => Call::Slice {
+                id: id as u64,
+                offset: 4,
+                width: 8,
+            },
+            Work::Concat(id) => Call::Concat {
+                high: id as u64,
+                low: id as u64 + 1,
+                low_width: 16,
+                width: 32,
+            },
+            Work::UnsignedRange(id) => Call::UnsignedRange {
+                id: id as u64,
+                low: 3,
+                high: 200,
+            },
+        }
+    }
+}
+
+// The two tiers of the library.
+struct Tiers<'a> {
+    asking: &'a mut dyn Side,
+    twin: &'a mut dyn Side,
+}
 
 fn smallest(mut measure: impl FnMut() -> f64) -> f64 {
     (0..TIMES).map(|_| measure()).fold(f64::MAX, f64::min)
@@ -26,91 +109,120 @@ fn timed(calls: usize, run: impl FnOnce()) -> f64 {
     start.elapsed().as_nanos() as f64 / calls as f64
 }
 
-fn effect(number: usize) -> Call {
-    Call::Effect {
-        number: number as u64,
-        ty: INTEGER,
+fn work(graph: &mut Graph, works: &[Work]) {
+    for work in works {
+        black_box(black_box(*work).on(graph));
     }
 }
 
-// The number of an old node, spread over all of them.
-fn old(turn: usize, nodes: usize) -> usize {
-    turn * 7919 % nodes
-}
-
-fn original_old(graph: &mut Graph, nodes: usize) -> f64 {
-    timed(CALLS, || {
-        for turn in 0..CALLS {
-            black_box(graph.effect(black_box(old(turn, nodes)), ScalarType::Integer));
-        }
-    })
-}
-
-fn original_new(graph: &Graph, nodes: usize) -> f64 {
-    let mut graphs = vec![graph.clone(); COPIES];
-    for graph in &mut graphs {
-        graph.scalars.reserve(NEW);
+fn put(side: &mut dyn Side, region: &mut [u64], calls: &[Call]) {
+    for call in calls {
+        black_box(side.call(region, &black_box(*call)));
     }
-    timed(COPIES * NEW, || {
-        for graph in &mut graphs {
-            for turn in 0..NEW {
-                black_box(graph.effect(black_box(nodes + turn), ScalarType::Integer));
-            }
-        }
-    })
 }
 
-fn library_old(side: &mut dyn Side, region: &mut [u64], nodes: usize) -> f64 {
-    timed(CALLS, || {
-        for turn in 0..CALLS {
-            black_box(side.call(region, &black_box(effect(old(turn, nodes)))));
-        }
-    })
+// On a graph, the calls one after another.
+fn old_times(tiers: &mut Tiers, before: &[Work], works: &[Work]) -> [f64; 3] {
+    let (mut graph, mut region) = after(before);
+    let calls: Vec<Call> = works.iter().map(|work| work.call()).collect();
+    let original = smallest(|| timed(works.len(), || work(&mut graph, works)));
+    let [twin, asking] = [&mut tiers.twin, &mut tiers.asking]
+        .map(|side| smallest(|| timed(calls.len(), || put(*side, &mut region, &calls))));
+    [original, twin, asking]
 }
 
-fn library_new(side: &mut dyn Side, region: &[u64], nodes: usize) -> f64 {
-    let mut regions = vec![region.to_vec(); COPIES];
-    timed(COPIES * NEW, || {
-        for region in &mut regions {
-            for turn in 0..NEW {
-                black_box(side.call(region, &black_box(effect(nodes + turn))));
-            }
-        }
-    })
+// On copies of a graph, the calls one after another.
+fn new_times(tiers: &mut Tiers, before: &[Work], works: &[Work]) -> [f64; 3] {
+    let (graph, region) = after(before);
+    let calls: Vec<Call> = works.iter().map(|work| work.call()).collect();
+    let all = COPIES * works.len();
+    let original = smallest(|| {
+        let mut graphs = vec![graph.clone(); COPIES];
+        graphs
+            .iter_mut()
+            .for_each(|graph| graph.scalars.reserve(NEW));
+        timed(all, || {
+            graphs.iter_mut().for_each(|graph| work(graph, works))
+        })
+    });
+    let [twin, asking] = [&mut tiers.twin, &mut tiers.asking].map(|side| {
+        smallest(|| {
+            let mut regions = vec![region.clone(); COPIES];
+            timed(all, || {
+                for region in &mut regions {
+                    put(*side, region, &calls);
+                }
+            })
+        })
+    });
+    [original, twin, asking]
+}
+
+// The graph and the region that calls lead to.
+fn after(works: &[Work]) -> (Graph, Vec<u64>) {
+    let mut graph = Graph::default();
+    work(&mut graph, works);
+    let mut same = native::Graph::default();
+    for work in works {
+        apply(&mut same, &work.call());
+    }
+    let mut region = vec![0; REGION];
+    encode(&same, &mut region);
+    (graph, region)
 }
 
 fn is_graph(side: &mut dyn Side, region: &mut [u64]) -> f64 {
-    timed(CALLS, || {
-        for _ in 0..CALLS {
-            black_box(side.call(region, &black_box(Call::IsGraph)));
-        }
-    })
+    smallest(|| timed(CALLS, || put(side, region, &[Call::IsGraph; CALLS])))
 }
 
-pub fn print(side: &mut dyn Side, twin: &mut dyn Side) {
-    println!(
-        "Nanoseconds for a call. `asking` asks question 1 first, which alone takes `question 1`; `in graph` is its twin that does not ask.\n"
-    );
+fn print_leaves(tiers: &mut Tiers) {
     println!("| nodes | node | original | in graph | asking | question 1 |");
     println!("|---|---|---|---|---|---|");
     for nodes in NODES {
-        let mut graph = Graph::default();
-        for number in 0..nodes {
-            graph.effect(number, ScalarType::Integer);
-        }
-        let mut region = vec![0; REGION];
-        encode(&graph, &mut region);
-        let question = smallest(|| is_graph(side, &mut region));
-        let original = smallest(|| original_old(&mut graph, nodes));
-        let asking = smallest(|| library_old(side, &mut region, nodes));
-        let in_graph = smallest(|| library_old(twin, &mut region, nodes));
-        println!("| {nodes} | old | {original:.0} | {in_graph:.0} | {asking:.0} | {question:.0} |");
+        let before: Vec<Work> = (0..nodes).map(Work::Effect).collect();
+        let question = is_graph(tiers.asking, &mut after(&before).1);
+        // Old nodes, spread over all of them.
+        let works: Vec<Work> = (0..CALLS)
+            .map(|turn| Work::Effect(turn * 7919 % nodes))
+            .collect();
+        let [original, twin, asking] = old_times(tiers, &before, &works);
+        println!("| {nodes} | old | {original:.0} | {twin:.0} | {asking:.0} | {question:.0} |");
         if 512 < nodes + NEW {
             continue;
         }
-        let original = smallest(|| original_new(&graph, nodes));
-        let asking = smallest(|| library_new(side, &region, nodes));
-        let in_graph = smallest(|| library_new(twin, &region, nodes));
-        println!("| {nodes} | new | {original:.0} | {in_graph:.0} | {asking:.0} | {question:.0} |");
+        let works: Vec<Work> = (nodes..nodes + NEW).map(Work::Effect).collect();
+        let [original, twin, asking] = new_times(tiers, &before, &works);
+        println!("| {nodes} | new | {original:.0} | {twin:.0} | {asking:.0} | {question:.0} |");
     }
+}
+
+fn print_builders(tiers: &mut Tiers) {
+    println!("| builder | nodes | node | original | in graph | asking |");
+    println!("|---|---|---|---|---|---|");
+    for (name, builder) in BUILDERS {
+        for nodes in BUILDER_NODES {
+            // Three calls on the first leaves. Where their nodes are old, they are the last of the graph.
+            let new: Vec<Work> = (0..3).map(builder).collect();
+            let leaves: Vec<Work> = (0..nodes).map(Work::Leaf).collect();
+            let few = [&leaves[..8], &new[..]].concat();
+            let added = after(&few).0.scalars.len() - 8;
+            let before = [&leaves[..nodes - added], &new[..]].concat();
+            let works: Vec<Work> = (0..CALLS).map(|turn| builder(turn % 3)).collect();
+            let [original, twin, asking] = old_times(tiers, &before, &works);
+            println!("| {name} | {nodes} | old | {original:.0} | {twin:.0} | {asking:.0} |");
+            let [original, twin, asking] = new_times(tiers, &leaves, &new);
+            println!("| {name} | {nodes} | new | {original:.0} | {twin:.0} | {asking:.0} |");
+        }
+    }
+}
+
+pub fn print(asking: &mut dyn Side, twin: &mut dyn Side) {
+    let mut tiers = Tiers { asking, twin };
+    println!(
+        "Nanoseconds for a call. `asking` asks question 1 first, which alone takes `question 1`;"
+    );
+    println!("`in graph` is its twin that does not ask. First `effect`, then each builder.\n");
+    print_leaves(&mut tiers);
+    println!();
+    print_builders(&mut tiers);
 }

@@ -1,19 +1,25 @@
-// Writes a fixed sample of calls to FOLDER/stdin, and the original's answers to FOLDER/stdout.
-use crate::call::{Call, Side};
+// Writes a fixed sample of calls to FOLDER/stdin, and the original's answers to FOLDER/stdout. The calls come to every
+// site of the original that can be come to.
+use crate::call::{Answer, Call, Side};
 use crate::edges::{self, Step};
 use crate::generate::{Source, Spread};
 use crate::lines::{DONE, HELD, answer_line, call_line, peek_line, place_lines, words_line};
+use crate::meter::{self, Kind};
+use crate::native::ScalarType;
 use crate::original::Original;
-use crate::random::Random;
-use crate::words::REGION;
+use crate::sites::{Reach, sites};
+use crate::words::{LIMIT, REGION, readable};
 use std::fs;
 
 const SEED: u64 = 0x5ca1_ab1e_0004_0002;
-const LISTS: usize = 24;
-const CALLS: usize = 40;
-const REGIONS: usize = 40;
-const CALLS_ON_REGION: usize = 16;
-const DAMAGES: usize = 8;
+const LISTS: usize = 60;
+const CALLS: usize = 120;
+const REGIONS: usize = 60;
+const CALLS_ON_REGION: usize = 24;
+const DAMAGES: usize = 4;
+// The room left in a graph that is filled, and the calls then.
+const ROOM: usize = 6;
+const CALLS_ON_FULL: usize = 150;
 
 struct Vectors {
     input: String,
@@ -31,11 +37,14 @@ impl Vectors {
         }
     }
 
-    fn call(&mut self, len: usize, call: &Call) {
+    fn call(&mut self, len: usize, call: &Call) -> Answer {
+        meter::count_as(Kind::Grown);
         self.input += &call_line(call, len);
         let answer = Original.call(&mut self.held[..len], call);
         self.output += &answer_line(answer, &self.held);
         self.calls += 1;
+        meter::count_as(Kind::Fixed);
+        answer
     }
 
     fn look(&mut self, at: usize) {
@@ -47,27 +56,43 @@ impl Vectors {
         for step in edges::steps() {
             match step {
                 Step::Region(region) => self.place(&region),
-                Step::Call(len, call) => self.call(len, &call),
                 Step::Look(at) => self.look(at),
+                Step::Call(len, call) => {
+                    self.call(len, &call);
+                }
             }
         }
     }
 
     fn random_calls(&mut self, calls: usize) {
         for _ in 0..calls {
-            let call = self.source.call(&self.held[..REGION], Spread::Few);
-            self.call(REGION, &call);
+            let scalars = readable(&self.held[..REGION]);
+            let call = self.source.call(&scalars, Spread::Few);
+            let answer = self.call(REGION, &call);
+            self.source.hear(answer);
         }
     }
 
     fn grown(&mut self) {
         self.place(&[0; REGION]);
+        self.source.start();
         self.random_calls(CALLS);
+    }
+
+    // A grown graph, filled up to a little room.
+    fn full(&mut self) {
+        self.grown();
+        let ty = ScalarType::Integer.into();
+        for number in 0..(LIMIT - ROOM) as u64 - self.held[0] {
+            self.call(REGION, &Call::Effect { number, ty });
+        }
+        self.random_calls(CALLS_ON_FULL);
     }
 
     // A region that no calls could have grown, and damage to it.
     fn other(&mut self) {
-        let region = self.source.region();
+        let region = self.source.other_region();
+        self.source.look_at(&region);
         self.place(&region);
         self.random_calls(CALLS_ON_REGION);
         let region = self.held[..REGION].to_vec();
@@ -75,10 +100,63 @@ impl Vectors {
             let mut damaged = region.clone();
             self.source.damage(&mut damaged);
             self.place(&damaged);
-            self.call(REGION, &Call::IsGraph);
-            self.random_calls(1);
+            for call in self.source.calls(&readable(&damaged)) {
+                self.call(REGION, &call);
+            }
         }
     }
+
+    // Lists that come to the sites that the sample has not come to.
+    fn cover(&mut self) {
+        let mut seed = SEED;
+        let mut missing = missing();
+        while !missing.is_empty() {
+            seed += 1;
+            let (region, calls) = trial(seed);
+            if missing
+                .iter()
+                .all(|site| meter::hits(Kind::Other, *site) == 0)
+            {
+                continue;
+            }
+            self.place(&region);
+            for call in calls {
+                self.call(REGION, &call);
+            }
+            missing.retain(|site| meter::hits(Kind::Other, *site) == 0);
+        }
+    }
+}
+
+// The sites that can be come to and that the sample has not come to.
+fn missing() -> Vec<usize> {
+    let is_missing = |(number, reach): &(usize, Reach)| {
+        !matches!(reach, Reach::Never(_)) && meter::hits(Kind::Grown, *number) == 0
+    };
+    let all = sites().map(|site| site.reach).enumerate();
+    all.filter(is_missing).map(|(number, _)| number).collect()
+}
+
+// A list of calls, on the region of zeros or on one that no calls could have grown.
+fn trial(seed: u64) -> (Vec<u64>, Vec<Call>) {
+    let mut source = Source::new(seed, false);
+    let region = if source.random.once_in(2) {
+        source.start();
+        vec![0; REGION]
+    } else {
+        source.other_region()
+    };
+    source.look_at(&region);
+    let mut held = region.clone();
+    let mut calls = vec![];
+    meter::count_as(Kind::Other);
+    for _ in 0..CALLS_ON_REGION {
+        let call = source.call(&readable(&held), Spread::Few);
+        source.hear(Original.call(&mut held, &call));
+        calls.push(call);
+    }
+    meter::count_as(Kind::Fixed);
+    (region, calls)
 }
 
 pub fn write(folder: &str) {
@@ -86,20 +164,25 @@ pub fn write(folder: &str) {
         input: String::new(),
         output: String::new(),
         held: vec![0; HELD],
-        source: Source {
-            random: Random(SEED),
-            has_numbers: false,
-        },
+        source: Source::new(SEED, false),
         calls: 0,
     };
     vectors.edges();
     for _ in 0..LISTS {
         vectors.grown();
     }
+    vectors.full();
     for _ in 0..REGIONS {
         vectors.other();
     }
+    let random = vectors.calls;
+    vectors.cover();
+    assert!(missing().is_empty(), "the sample comes to every site");
     fs::write(format!("{folder}/stdin"), &vectors.input).expect("write stdin");
     fs::write(format!("{folder}/stdout"), &vectors.output).expect("write stdout");
-    println!("{} calls, seed {SEED:#x}", vectors.calls);
+    let (calls, lines) = (vectors.calls, vectors.input.lines().count());
+    println!(
+        "{calls} calls in {lines} lines, seed {SEED:#x}; {} of them for rare sites",
+        calls - random
+    );
 }

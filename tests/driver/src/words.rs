@@ -7,6 +7,8 @@ pub const REGION: usize = 6145;
 pub const WORDS: usize = 12;
 pub const LIMIT: usize = 512;
 
+static ZEROS: [u64; REGION] = [0; REGION];
+
 const UNARY: u64 = UNARY_CODE as u64;
 const BINARY: u64 = BINARY_CODE as u64;
 
@@ -104,8 +106,13 @@ pub fn node_words(scalar: &Scalar, alias: Option<usize>) -> [u64; WORDS] {
 // Writes a graph as the region's words.
 pub fn encode(graph: &Graph, words: &mut [u64]) {
     words.fill(0);
+    encode_from(graph, 0, words);
+}
+
+// Writes the nodes past so many, where the words have those already.
+pub fn encode_from(graph: &Graph, count: usize, words: &mut [u64]) {
     words[0] = graph.scalars.len() as u64;
-    for (id, scalar) in graph.scalars.iter().enumerate() {
+    for (id, scalar) in graph.scalars.iter().enumerate().skip(count) {
         let node = node_words(scalar, opened::alias(graph, id));
         words[start_of(id)..][..WORDS].copy_from_slice(&node);
     }
@@ -213,7 +220,7 @@ fn widths(scalar: &Scalar) -> [u16; 2] {
     [of_type, of_operation]
 }
 
-fn is_node(node: &Node, id: usize, count: usize) -> bool {
+pub fn is_node(node: &Node, id: usize, count: usize) -> bool {
     let scalar = &node.scalar;
     let offset = match scalar.operation {
         Operation::Slice { offset, .. } => offset,
@@ -237,7 +244,7 @@ pub fn nodes_of(words: &[u64]) -> Option<Vec<Node>> {
     }
     let count = words[0] as usize;
     let (used, rest) = words.split_at(start_of(count));
-    if rest.iter().any(|word| *word != 0) {
+    if rest != &ZEROS[..rest.len()] {
         return None;
     }
     let mut nodes = Vec::with_capacity(count);
@@ -249,6 +256,16 @@ pub fn nodes_of(words: &[u64]) -> Option<Vec<Node>> {
         nodes.push(node);
     }
     Some(nodes)
+}
+
+// The nodes of any words, up to the first that says nothing.
+pub fn readable(words: &[u64]) -> Vec<Scalar> {
+    let count = words.first().map_or(0, |count| *count).min(LIMIT as u64) as usize;
+    let nodes = words.get(1..).unwrap_or(&[]).chunks_exact(WORDS);
+    nodes
+        .take(count)
+        .map_while(|words| read_node(words).map(|node| node.scalar))
+        .collect()
 }
 
 // The graph of the region, if it is one, with both maps filled from it.

@@ -1,0 +1,4 @@
+pub mod Operator
+pub mod Shape
+pub mod Range
+pub mod Bitfield

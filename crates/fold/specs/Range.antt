@@ -1,0 +1,166 @@
+-- The range of a new node by its operands' ranges, and comparisons that ranges decide.
+use mathlib.Core.Bool.{Bool, true, false, cond, not}
+use mathlib.Core.Option.{Option, none, some}
+use Prim.Native.Nat.{ℕ}
+use lib.Signed.{ltZ, leZ}
+use Rattle.word.specs.Value.{provided, eqZ}
+use Rattle.range.specs.Interval.{Interval, both, one, sameInterval, nonnegative, typeInterval, filtered, signExtended, addInterval, subInterval, negInterval, mulInterval, quotInterval, remInterval, andInterval, udivInterval, uremInterval, shlInterval, shrInterval}
+use Rattle.range.specs.declared.ScalarType.{ScalarType}
+use Rattle.range.specs.declared.ScalarType.the-variants as ty
+use Rattle.evaluate.specs.Evaluate.{mapped}
+use Rattle.evaluate.specs.declared.Unary.{Unary}
+use Rattle.evaluate.specs.declared.Unary.the-variants as un
+use Rattle.evaluate.specs.declared.Binary.{Binary}
+use Rattle.evaluate.specs.declared.Binary.the-variants as bi
+use Rattle.graph.specs.Insert.{orElse}
+use Rattle.fold.specs.Shape.{given}
+use Rattle.fold.specs.declared.Derived as declared
+use Rattle.fold.specs.declared.Derived.the-variants as derived
+use Rattle.fold.specs.declared.MaybeBool as declared-bool
+use Rattle.fold.specs.declared.MaybeBool.the-variants as truth
+use Rattle.range.specs.Interval.{intervalOf}
+
+-- what a Derived stands for: the range of a new node, if the builder does not answer None
+abbrev pub derivedOf : declared.Derived → Option (Option Interval)
+derivedOf (derived.Some r) = some (intervalOf r)
+derivedOf derived.None = none
+
+-- what a MaybeBool stands for
+abbrev pub truthOf : declared-bool.MaybeBool → Option Bool
+truthOf (truth.Some b) = some b
+truthOf truth.None = none
+
+-- what follows from two answers that are there
+abbrev pub bothGiven : {A B C : Type 0} → Option A → Option B → (A → B → Option C) → Option C
+bothGiven none b f = none
+bothGiven (some a) none f = none
+bothGiven (some a) (some b) f = f a b
+
+-- ---- unary nodes
+
+-- sign-extended to Integer; else the type's range (native.rs 312 to 318)
+abbrev pub extendedRange : ScalarType → ℕ → Option Interval
+extendedRange ty.Bool w = typeInterval ty.Bool
+extendedRange (ty.Bits v) w = typeInterval (ty.Bits v)
+extendedRange ty.Integer w = signExtended w
+
+-- the operand's range negated, if it and that are there (native.rs 305 to 311)
+abbrev pub negatedRange : Option Interval → Option (Option Interval)
+negatedRange r = given r (λ a. mapped some (negInterval a)) none
+
+-- the range of a new unary node; Negate needs its operand's (native.rs 304 to 319)
+unfoldable pub unaryRange : ScalarType → Unary → Option Interval → Option (Option Interval)
+unaryRange t un.BoolNot r = some (typeInterval t)
+unaryRange t un.BitNot r = some (typeInterval t)
+unaryRange t un.Negate r = negatedRange r
+unaryRange t (un.Truncate w) r = some (typeInterval t)
+unaryRange t (un.SignExtend w) r = some (extendedRange t w)
+unaryRange t (un.LeadingZeros w) r = some (typeInterval t)
+unaryRange t (un.TrailingZeros w) r = some (typeInterval t)
+
+-- ---- binary nodes
+
+-- the rules on Integer (native.rs 510 to 548)
+unfoldable pub integerRule : Binary → Interval → Interval → Option Interval
+integerRule bi.Add a b = addInterval a b
+integerRule bi.Sub a b = subInterval a b
+integerRule bi.Mul a b = mulInterval a b
+integerRule bi.And a b = andInterval a b
+integerRule bi.Or a b = none
+integerRule bi.Xor a b = none
+integerRule bi.ShiftLeft a b = none
+integerRule bi.ShiftRight a b = none
+integerRule bi.ArithmeticShiftRight a b = none
+integerRule bi.Equal a b = none
+integerRule bi.NotEqual a b = none
+integerRule bi.LessSigned a b = none
+integerRule bi.LessUnsigned a b = none
+integerRule bi.LessEqualSigned a b = none
+integerRule bi.LessEqualUnsigned a b = none
+integerRule bi.DivideSigned a b = quotInterval a b
+integerRule bi.RemainderSigned a b = remInterval a b
+integerRule bi.DivideUnsigned a b = udivInterval a b
+integerRule bi.RemainderUnsigned a b = uremInterval a b
+
+-- the rules on Bits, before the result is held to its type (native.rs 554 to 580)
+unfoldable pub bitsRule : Binary → Interval → Interval → Option Interval
+bitsRule bi.Add a b = addInterval a b
+bitsRule bi.Sub a b = subInterval a b
+bitsRule bi.Mul a b = mulInterval a b
+bitsRule bi.And a b = andInterval a b
+bitsRule bi.Or a b = none
+bitsRule bi.Xor a b = none
+bitsRule bi.ShiftLeft a b = shlInterval a b
+bitsRule bi.ShiftRight a b = shrInterval a b
+bitsRule bi.ArithmeticShiftRight a b = none
+bitsRule bi.Equal a b = none
+bitsRule bi.NotEqual a b = none
+bitsRule bi.LessSigned a b = none
+bitsRule bi.LessUnsigned a b = none
+bitsRule bi.LessEqualSigned a b = none
+bitsRule bi.LessEqualUnsigned a b = none
+bitsRule bi.DivideSigned a b = none
+bitsRule bi.RemainderSigned a b = none
+bitsRule bi.DivideUnsigned a b = none
+bitsRule bi.RemainderUnsigned a b = none
+
+-- a range that lies in Bits(w), if there is one
+abbrev pub heldTo : ℕ → Option Interval → Option Interval
+heldTo w none = none
+heldTo w (some a) = filtered w a
+
+-- the rule's range on Bits, or the type's (native.rs 550 to 582)
+abbrev pub bitsRange : ℕ → Binary → Option Interval → Option Interval → Option Interval
+bitsRange w o r s = orElse (heldTo w (bothGiven r s (bitsRule o))) (typeInterval (ty.Bits w))
+
+-- the range of a new binary node; on Integer both operands need one, and the operator a rule (native.rs 507 to 585)
+unfoldable pub binaryRange : ScalarType → Binary → Option Interval → Option Interval → Option (Option Interval)
+binaryRange ty.Bool o r s = some (typeInterval ty.Bool)
+binaryRange (ty.Bits w) o r s = some (bitsRange w o r s)
+binaryRange ty.Integer o r s = mapped some (bothGiven r s (integerRule o))
+
+-- ---- comparisons (native.rs 409 to 437)
+
+-- is no number in both?
+abbrev pub apart : Interval → Interval → Bool
+apart a b = one (ltZ (a .high) (b .low)) (ltZ (b .high) (a .low))
+
+-- equal where both are one number, different where they are apart
+abbrev pub equalRanges : Interval → Interval → Option Bool
+equalRanges a b =
+    cond (both (eqZ (a .low) (a .high)) (sameInterval a b)) (some true)
+    (cond (apart a b) (some false) none)
+
+-- less where a ends below b, not less where a starts at b's end or above
+abbrev pub lessRanges : Interval → Interval → Option Bool
+lessRanges a b = cond (ltZ (a .high) (b .low)) (some true) (cond (leZ (b .high) (a .low)) (some false) none)
+
+-- the same for less or equal
+abbrev pub lessEqualRanges : Interval → Interval → Option Bool
+lessEqualRanges a b = cond (leZ (a .high) (b .low)) (some true) (cond (ltZ (b .high) (a .low)) (some false) none)
+
+-- are both not negative, so that unsigned and signed order are one?
+abbrev pub unsignedToo : Interval → Interval → Bool
+unsignedToo a b = both (nonnegative a) (nonnegative b)
+
+-- what the ranges of its operands say of a comparison
+unfoldable pub comparison : Binary → Interval → Interval → Option Bool
+comparison bi.Add a b = none
+comparison bi.Sub a b = none
+comparison bi.Mul a b = none
+comparison bi.And a b = none
+comparison bi.Or a b = none
+comparison bi.Xor a b = none
+comparison bi.ShiftLeft a b = none
+comparison bi.ShiftRight a b = none
+comparison bi.ArithmeticShiftRight a b = none
+comparison bi.Equal a b = equalRanges a b
+comparison bi.NotEqual a b = mapped not (equalRanges a b)
+comparison bi.LessSigned a b = lessRanges a b
+comparison bi.LessUnsigned a b = provided (unsignedToo a b) (lessRanges a b)
+comparison bi.LessEqualSigned a b = lessEqualRanges a b
+comparison bi.LessEqualUnsigned a b = provided (unsignedToo a b) (lessEqualRanges a b)
+comparison bi.DivideSigned a b = none
+comparison bi.RemainderSigned a b = none
+comparison bi.DivideUnsigned a b = none
+comparison bi.RemainderUnsigned a b = none

@@ -1,0 +1,132 @@
+// Comparisons that the ranges of their operands decide.
+ghost use mathlib.Core.Path.{_≡_};
+ghost use Rattle.range.specs.Interval.{boundsOf, intervalOf};
+ghost use Rattle.evaluate.specs.Evaluate.{mapped};
+ghost use Rattle.word.specs.Value.{provided};
+ghost use mathlib.Core.Bool.{not};
+ghost use Rattle.fold.specs.Range.{truthOf, apart, equalRanges, lessRanges, lessEqualRanges, unsignedToo, comparison, bothGiven};
+use crate::MaybeBool;
+use evaluate::Binary;
+use range::MaybeRange;
+use range::Range;
+
+fn apart(a: Range, b: Range) -> bool
+    ensures { λ r. ⌜ r ≡ apart (boundsOf a) (boundsOf b) ⌝ }
+{
+    let first = a.max;
+    let second = b.max;
+    if first.lt(b.min) {
+        true
+    } else {
+        second.lt(a.min)
+    }
+}
+
+fn equal_ranges(a: Range, b: Range) -> MaybeBool
+    ensures { λ r. ⌜ truthOf r ≡ equalRanges (boundsOf a) (boundsOf b) ⌝ }
+{
+    let low = a.min;
+    if low.eq(a.max) && a.eq(b) {
+        return MaybeBool::Some(true);
+    }
+    if apart(a, b) {
+        MaybeBool::Some(false)
+    } else {
+        MaybeBool::None
+    }
+}
+
+fn less_ranges(a: Range, b: Range) -> MaybeBool
+    ensures { λ r. ⌜ truthOf r ≡ lessRanges (boundsOf a) (boundsOf b) ⌝ }
+{
+    let first = a.max;
+    let second = b.max;
+    if first.lt(b.min) {
+        return MaybeBool::Some(true);
+    }
+    if second.le(a.min) {
+        MaybeBool::Some(false)
+    } else {
+        MaybeBool::None
+    }
+}
+
+fn less_equal_ranges(a: Range, b: Range) -> MaybeBool
+    ensures { λ r. ⌜ truthOf r ≡ lessEqualRanges (boundsOf a) (boundsOf b) ⌝ }
+{
+    let first = a.max;
+    let second = b.max;
+    if first.le(b.min) {
+        return MaybeBool::Some(true);
+    }
+    if second.lt(a.min) {
+        MaybeBool::Some(false)
+    } else {
+        MaybeBool::None
+    }
+}
+
+// Are both not negative, so that unsigned and signed order are one?
+fn unsigned_too(a: Range, b: Range) -> bool
+    ensures { λ r. ⌜ r ≡ unsignedToo (boundsOf a) (boundsOf b) ⌝ }
+{
+    if a.is_nonnegative() {
+        b.is_nonnegative()
+    } else {
+        false
+    }
+}
+
+fn turned(truth: MaybeBool) -> MaybeBool
+    ensures { λ r. ⌜ truthOf r ≡ mapped not (truthOf truth) ⌝ }
+{
+    match truth {
+        MaybeBool::Some(value) => MaybeBool::Some(!value),
+        MaybeBool::None => MaybeBool::None,
+    }
+}
+
+fn if_unsigned(is: bool, truth: MaybeBool) -> MaybeBool
+    ensures { λ r. ⌜ truthOf r ≡ provided is (truthOf truth) ⌝ }
+{
+    if is { truth } else { MaybeBool::None }
+}
+
+fn comparison(op: Binary, a: Range, b: Range) -> MaybeBool
+    ensures { λ r. ⌜ truthOf r ≡ comparison op (boundsOf a) (boundsOf b) ⌝ }
+{
+    match op {
+        Binary::Add => MaybeBool::None,
+        Binary::Sub => MaybeBool::None,
+        Binary::Mul => MaybeBool::None,
+        Binary::And => MaybeBool::None,
+        Binary::Or => MaybeBool::None,
+        Binary::Xor => MaybeBool::None,
+        Binary::ShiftLeft => MaybeBool::None,
+        Binary::ShiftRight => MaybeBool::None,
+        Binary::ArithmeticShiftRight => MaybeBool::None,
+        Binary::Equal => equal_ranges(a, b),
+        Binary::NotEqual => turned(equal_ranges(a, b)),
+        Binary::LessSigned => less_ranges(a, b),
+        Binary::LessUnsigned => if_unsigned(unsigned_too(a, b), less_ranges(a, b)),
+        Binary::LessEqualSigned => less_equal_ranges(a, b),
+        Binary::LessEqualUnsigned => if_unsigned(unsigned_too(a, b), less_equal_ranges(a, b)),
+        Binary::DivideSigned => MaybeBool::None,
+        Binary::RemainderSigned => MaybeBool::None,
+        Binary::DivideUnsigned => MaybeBool::None,
+        Binary::RemainderUnsigned => MaybeBool::None,
+    }
+}
+
+// What two ranges say of a comparison, if both are there.
+pub fn compared(op: Binary, left: MaybeRange, right: MaybeRange) -> MaybeBool
+    ensures { λ r. ⌜ truthOf r ≡ bothGiven (intervalOf left) (intervalOf right) (comparison op) ⌝ }
+{
+    let MaybeRange::Some(a) = left else {
+        return MaybeBool::None;
+    };
+    let MaybeRange::Some(b) = right else {
+        return MaybeBool::None;
+    };
+    comparison(op, a, b)
+}

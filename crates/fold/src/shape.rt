@@ -1,0 +1,169 @@
+// What the folds read off nodes: equality of types, ranges that fit, and the shapes that they look for.
+ghost use mathlib.Core.Path.{_≡_};
+ghost use lib.ListN.{length};
+ghost use Rattle.word.specs.Value.{val, numberOf};
+ghost use Rattle.range.specs.Interval.{intervalOf};
+ghost use Rattle.graph.specs.Layout.{REGION};
+ghost use Rattle.graph.specs.Node.{opOf};
+ghost use Rattle.fold.specs.Shape.{sameType, narrowType, notNegative, fits, isValue, isSome, chained, maybeChainOf, chainOf, chainAt, idOf, refinedOf, refinedAt, origin};
+use crate::Chain;
+use crate::MaybeChain;
+use crate::MaybeId;
+use evaluate::Binary;
+use graph::NodeId;
+use graph::Operation;
+use graph::layout::LIMIT;
+use graph::read::literal;
+use graph::read::operation_at;
+use range::MaybeRange;
+use range::ScalarType;
+use word::MaybeWord;
+
+pub fn same_type(a: ScalarType, b: ScalarType) -> bool
+    ensures { λ r. ⌜ r ≡ sameType a b ⌝ }
+{
+    match a {
+        ScalarType::Bool => match b {
+            ScalarType::Bool => true,
+            ScalarType::Bits(_) => false,
+            ScalarType::Integer => false,
+        },
+        ScalarType::Bits(width) => match b {
+            ScalarType::Bool => false,
+            ScalarType::Bits(other) => width == other,
+            ScalarType::Integer => false,
+        },
+        ScalarType::Integer => match b {
+            ScalarType::Bool => false,
+            ScalarType::Bits(_) => false,
+            ScalarType::Integer => true,
+        },
+    }
+}
+
+// Is it Bits of at most that width?
+pub fn is_narrow(ty: ScalarType, width: u16) -> bool
+    ensures { λ r. ⌜ r ≡ narrowType ty width ⌝ }
+{
+    match ty {
+        ScalarType::Bool => false,
+        ScalarType::Bits(actual) => actual <= width,
+        ScalarType::Integer => false,
+    }
+}
+
+pub fn is_not_negative(range: MaybeRange) -> bool
+    ensures { λ r. ⌜ r ≡ notNegative (intervalOf range) ⌝ }
+{
+    match range {
+        MaybeRange::Some(bounds) => bounds.is_nonnegative(),
+        MaybeRange::None => false,
+    }
+}
+
+// Is there a range, and does it lie in Bits(width)?
+pub fn fits(range: MaybeRange, width: u16) -> bool
+    ensures { λ r. ⌜ r ≡ fits width (intervalOf range) ⌝ }
+{
+    match range {
+        MaybeRange::Some(bounds) => bounds.is_in_bits(width),
+        MaybeRange::None => false,
+    }
+}
+
+pub fn is_some(value: MaybeWord) -> bool
+    ensures { λ r. ⌜ r ≡ isSome (numberOf value) ⌝ }
+{
+    match value {
+        MaybeWord::Some(_) => true,
+        MaybeWord::None => false,
+    }
+}
+
+fn chained(op: Binary, base: NodeId, value: MaybeWord) -> MaybeChain
+    ensures { λ r. ⌜ maybeChainOf r ≡ chained op (base .0) (numberOf value) ⌝ }
+{
+    match value {
+        MaybeWord::Some(constant) => MaybeChain::Some(Chain {
+            op: op,
+            base: base,
+            value: constant,
+        }),
+        MaybeWord::None => MaybeChain::None,
+    }
+}
+
+// The node, if it is a binary operation whose right operand is a constant.
+pub fn chain_at(g: &[u64], id: NodeId) -> MaybeChain
+    requires { ⌜ length (now g) ≡ REGION ⌝ }
+    ensures { λ r. ⌜ maybeChainOf r ≡ chainAt (now (g .entry)) (id .0) ⌝ }
+{
+    let operation = operation_at(g, id);
+    match operation {
+        Operation::Constant(_) => MaybeChain::None,
+        Operation::Input(_) => MaybeChain::None,
+        Operation::Refine(_) => MaybeChain::None,
+        Operation::Effect(_) => MaybeChain::None,
+        Operation::Slice {
+            value: _,
+            offset: _,
+            width: _,
+        } => MaybeChain::None,
+        Operation::Concat {
+            high: _,
+            low: _,
+            low_width: _,
+        } => MaybeChain::None,
+        Operation::Unary(_, _) => MaybeChain::None,
+        Operation::Binary(op, base, right) => chained(op, base, literal(g, right)),
+    }
+}
+
+fn refined_of(operation: Operation) -> MaybeId
+    ensures { λ r. ⌜ idOf r ≡ refinedOf (opOf operation) ⌝ }
+{
+    match operation {
+        Operation::Constant(_) => MaybeId::None,
+        Operation::Input(_) => MaybeId::None,
+        Operation::Refine(source) => MaybeId::Some(source),
+        Operation::Effect(_) => MaybeId::None,
+        Operation::Slice {
+            value: _,
+            offset: _,
+            width: _,
+        } => MaybeId::None,
+        Operation::Concat {
+            high: _,
+            low: _,
+            low_width: _,
+        } => MaybeId::None,
+        Operation::Unary(_, _) => MaybeId::None,
+        Operation::Binary(_, _, _) => MaybeId::None,
+    }
+}
+
+// The source of the node, if it is a Refine.
+pub fn refined_at(g: &[u64], id: NodeId) -> MaybeId
+    requires { ⌜ length (now g) ≡ REGION ⌝ }
+    ensures { λ r. ⌜ idOf r ≡ refinedAt (now (g .entry)) (id .0) ⌝ }
+{
+    refined_of(operation_at(g, id))
+}
+
+// The node that a chain of Refines starts from.
+pub fn origin(g: &[u64], id: NodeId) -> NodeId
+    requires { ⌜ length (now g) ≡ REGION ⌝ }
+    ensures { λ r. ⌜ r .0 ≡ origin (now (g .entry)) (id .0) ⌝ }
+{
+    let mut at = id.0;
+    let mut left = LIMIT;
+    while 0 < left {
+        let source = refined_at(g, NodeId(at));
+        let MaybeId::Some(previous) = source else {
+            return NodeId(at);
+        };
+        at = previous.0;
+        left -= 1;
+    }
+    NodeId(at)
+}

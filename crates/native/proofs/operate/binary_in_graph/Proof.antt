@@ -1,0 +1,73 @@
+use borrow.Author.Tests.{not-true, not-false}
+use mathlib.Core.Path.{_∙_}
+use native.Mathlib.Omega.{arith}
+use Rattle.word.specs.Value.{val}
+use Rattle.graph.proofs.Grown.{graph-facts}
+use Rattle.native.specs.Request as request
+use Rattle.native.specs.Request.{requestInGraph, worked}
+use Rattle.native.proofs.Builders.{settled-finished}
+use borrow.Author.Needs.{needs}
+use Rattle.native.proofs.operate.binary_in_graph.Statement.{statement}
+use Rattle.native.proofs.operate.binary_in_graph.Tie as tie
+
+type-width-requires : tie.Need-type-width-requires
+type-width-requires c κs = search needs
+
+is-width-requires : tie.Need-is-width-requires
+is-width-requires c κs = search needs
+
+returns : tie.Need-returns
+unfolding requestInGraph worked
+returns c = rw (← c .before .before .type-width .ensures, ← c .before .is-width .ensures, not-true (c .before .is-width .result) (c .if1 .taken))
+
+count-requires : tie.Need-count-requires
+count-requires c κs = graph-facts _ (c .before .before .before .before .before .pre) .length
+
+are-ids-requires : tie.Need-are-ids-requires
+are-ids-requires c κs = search needs
+
+same-length : tie.Need-same-length
+same-length c = search needs
+
+returns-2 : tie.Need-returns-2
+unfolding requestInGraph worked
+returns-2 c = rw (← c .before .before .before .before .before .before .type-width .ensures, ← c .before .before .before .before .before .is-width .ensures, not-false (c .before .before .before .before .before .is-width .result) (c .before .before .before .before .if1 .left), ← c .before .before .count .ensures, ← c .before .are-ids .ensures, not-true (c .before .are-ids .result) (c .if2 .taken))
+
+type-at-requires : tie.Need-type-at-requires
+type-at-requires c κs = graph-facts _ (c .before .before .before .before .before .before .before .before .before .pre) .length
+
+type-at-requires-2 : tie.Need-type-at-requires-2
+type-at-requires-2 c κs = graph-facts _ (c .before .before .before .before .before .before .before .before .before .before .before .pre) .length
+
+is-binary-typed-requires : tie.Need-is-binary-typed-requires
+is-binary-typed-requires c κs = search needs
+
+same-length-2 : tie.Need-same-length-2
+same-length-2 c = search needs
+
+returns-3 : tie.Need-returns-3
+unfolding requestInGraph worked
+returns-3 c = rw (← c .before .before .before .before .before .before .before .before .before .before .before .before .type-width .ensures, ← c .before .before .before .before .before .before .before .before .before .before .before .is-width .ensures, not-false (c .before .before .before .before .before .before .before .before .before .before .before .is-width .result) (c .before .before .before .before .before .before .before .before .before .before .if1 .left), ← c .before .before .before .before .before .before .before .before .count .ensures, ← c .before .before .before .before .before .before .before .are-ids .ensures, not-false (c .before .before .before .before .before .before .before .are-ids .result) (c .before .before .before .before .before .before .if2 .left), ← c .before .before .before .before .type-at .ensures, ← c .before .before .type-at2 .ensures, ← c .before .is-binary-typed .ensures, not-true (c .before .is-binary-typed .result) (c .if3 .taken))
+
+count-requires-2 : tie.Need-count-requires-2
+count-requires-2 c κs = graph-facts _ (c .before .before .before .before .before .before .before .before .before .before .before .before .before .before .before .pre) .length
+
+full-requires : tie.Need-full-requires
+full-requires c κs = search needs
+
+binary-requires : tie.Need-binary-requires
+binary-requires c κs = graph-facts _ (c .before .before .before .before .before .before .before .before .before .before .before .before .before .before .before .before .before .before .pre) .length
+
+settle-requires : tie.Need-settle-requires
+settle-requires c κs = (c .before .before .before .binary .kept .0 ∙ graph-facts _ (c .before .before .before .before .before .before .before .before .before .before .before .before .before .before .before .before .before .before .before .before .before .before .pre) .length, rw (c .before .before .before .before .before .before .count2 .ensures) (graph-facts _ (c .before .before .before .before .before .before .before .before .before .before .before .before .before .before .before .before .before .before .before .before .before .before .pre) .count))
+
+same-length-3 : tie.Need-same-length-3
+same-length-3 c = omega (arith, c .before .before .before .before .before .before .binary .kept .0, c .before .before .settle .kept .0)
+
+returns-4 : tie.Need-returns-4
+unfolding requestInGraph worked
+returns-4 c = rw (← c .before .before .before .before .before .before .before .before .before .before .before .before .before .before .before .before .before .before .before .before .before .before .before .type-width .ensures, ← c .before .before .before .before .before .before .before .before .before .before .before .before .before .before .before .before .before .before .before .before .before .before .is-width .ensures, not-false (c .before .before .before .before .before .before .before .before .before .before .before .before .before .before .before .before .before .before .before .before .before .before .is-width .result) (c .before .before .before .before .before .before .before .before .before .before .before .before .before .before .before .before .before .before .before .before .before .if1 .left), ← c .before .before .before .before .before .before .before .before .before .before .before .before .before .before .before .before .before .before .before .count .ensures, ← c .before .before .before .before .before .before .before .before .before .before .before .before .before .before .before .before .before .before .are-ids .ensures, not-false (c .before .before .before .before .before .before .before .before .before .before .before .before .before .before .before .before .before .before .are-ids .result) (c .before .before .before .before .before .before .before .before .before .before .before .before .before .before .before .before .before .if2 .left), ← c .before .before .before .before .before .before .before .before .before .before .before .before .before .before .before .type-at .ensures, ← c .before .before .before .before .before .before .before .before .before .before .before .before .before .type-at2 .ensures, ← c .before .before .before .before .before .before .before .before .before .before .before .before .is-binary-typed .ensures, not-false (c .before .before .before .before .before .before .before .before .before .before .before .before .is-binary-typed .result) (c .before .before .before .before .before .before .before .before .before .before .before .if3 .left))
+    (settled-finished _ _ _ (request.binary (c .before .before .before .before .before .before .before .before .before .before .before .before .before .before .before .before .before .before .before .before .before .before .before .before .before .args .ty) (c .before .before .before .before .before .before .before .before .before .before .before .before .before .before .before .before .before .before .before .before .before .before .before .before .before .args .op) (c .before .before .before .before .before .before .before .before .before .before .before .before .before .before .before .before .before .before .before .before .before .before .before .before .before .args .left .0) (c .before .before .before .before .before .before .before .before .before .before .before .before .before .before .before .before .before .before .before .before .before .before .before .before .before .args .right .0)) _ _ _ (c .before .before .before .before .before .before .before .before .before .before .before .before .before .before .before .before .before .before .before .before .before .before .before .before .before .pre) (rw (c .before .before .before .before .before .before .before .full .ensures) at (c .before .before .before .before .before .before .binary .ensures)) (c .before .before .settle .ensures .0) (rw (c .before .before .before .before .before .before .before .before .before .count2 .ensures) at (c .before .before .settle .ensures .1)))
+
+pub binary-in-graph-spec : {M : Type 1} → statement M
+binary-in-graph-spec = tie.close (tie.spec type-width-requires is-width-requires returns count-requires are-ids-requires same-length returns-2 type-at-requires type-at-requires-2 is-binary-typed-requires same-length-2 returns-3 count-requires-2 full-requires binary-requires settle-requires same-length-3 returns-4)

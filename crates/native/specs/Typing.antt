@@ -1,0 +1,82 @@
+-- Document 01's typing table: which types an operator takes and gives.
+use mathlib.Core.Bool.{Bool, true, false}
+use Prim.Native.Nat.{ℕ, _-_}
+use lib.Dec.{leb}
+use Rattle.range.specs.Interval.{both}
+use Rattle.range.specs.declared.ScalarType.{ScalarType}
+use Rattle.range.specs.declared.ScalarType.the-variants as ty
+use Rattle.evaluate.specs.declared.Unary.{Unary}
+use Rattle.evaluate.specs.declared.Unary.the-variants as un
+use Rattle.evaluate.specs.declared.Binary.{Binary}
+use Rattle.evaluate.specs.declared.Binary.the-variants as bi
+use Rattle.fold.specs.Shape.{sameType}
+
+-- Bits or Integer
+abbrev pub isNumber : ScalarType → Bool
+isNumber ty.Bool = false
+isNumber (ty.Bits w) = true
+isNumber ty.Integer = true
+
+-- Bits
+abbrev pub isBits : ScalarType → Bool
+isBits ty.Bool = false
+isBits (ty.Bits w) = true
+isBits ty.Integer = false
+
+-- Integer, or Bits(t) with t at least w
+abbrev pub isExtension : ScalarType → ℕ → Bool
+isExtension ty.Bool w = false
+isExtension (ty.Bits t) w = leb w t
+isExtension ty.Integer w = true
+
+-- a unary operator from type s to type t
+abbrev pub unaryTyped : Unary → ScalarType → ScalarType → Bool
+unaryTyped un.BoolNot s t = both (sameType s ty.Bool) (sameType t ty.Bool)
+unaryTyped un.BitNot s t = both (isBits s) (sameType t s)
+unaryTyped un.Negate s t = both (sameType s ty.Integer) (sameType t ty.Integer)
+unaryTyped (un.Truncate w) s t = sameType t (ty.Bits w)
+unaryTyped (un.SignExtend w) s t = both (sameType s (ty.Bits w)) (isExtension t w)
+unaryTyped (un.LeadingZeros w) s t = both (sameType s (ty.Bits w)) (isNumber t)
+unaryTyped (un.TrailingZeros w) s t = both (sameType s (ty.Bits w)) (isNumber t)
+
+-- both operands and the result of one type
+abbrev pub sameTypes : ScalarType → ScalarType → ScalarType → Bool
+sameTypes a b t = both (sameType a t) (sameType b t)
+
+-- sums, products and divisions: of one type, Bits or Integer
+abbrev pub arithmetic : ScalarType → ScalarType → ScalarType → Bool
+arithmetic a b t = both (isNumber t) (sameTypes a b t)
+
+-- shifts: left operand and result of one type, Bits or Integer; the amount any of these
+abbrev pub shift : ScalarType → ScalarType → ScalarType → Bool
+shift a b t = both (isNumber t) (both (sameType a t) (isNumber b))
+
+-- comparisons: two operands of one type, to Bool
+abbrev pub comparison : ScalarType → ScalarType → ScalarType → Bool
+comparison a b t = both (sameType t ty.Bool) (sameType a b)
+
+-- a binary operator from types a and b to type t
+abbrev pub binaryTyped : Binary → ScalarType → ScalarType → ScalarType → Bool
+binaryTyped bi.Add a b t = arithmetic a b t
+binaryTyped bi.Sub a b t = arithmetic a b t
+binaryTyped bi.Mul a b t = arithmetic a b t
+binaryTyped bi.And a b t = sameTypes a b t
+binaryTyped bi.Or a b t = sameTypes a b t
+binaryTyped bi.Xor a b t = sameTypes a b t
+binaryTyped bi.ShiftLeft a b t = shift a b t
+binaryTyped bi.ShiftRight a b t = shift a b t
+binaryTyped bi.ArithmeticShiftRight a b t = shift a b t
+binaryTyped bi.Equal a b t = comparison a b t
+binaryTyped bi.NotEqual a b t = comparison a b t
+binaryTyped bi.LessSigned a b t = comparison a b t
+binaryTyped bi.LessUnsigned a b t = comparison a b t
+binaryTyped bi.LessEqualSigned a b t = comparison a b t
+binaryTyped bi.LessEqualUnsigned a b t = comparison a b t
+binaryTyped bi.DivideSigned a b t = arithmetic a b t
+binaryTyped bi.RemainderSigned a b t = arithmetic a b t
+binaryTyped bi.DivideUnsigned a b t = arithmetic a b t
+binaryTyped bi.RemainderUnsigned a b t = arithmetic a b t
+
+-- a concat of width w: high exactly Bits(w - low width), low exactly Bits(low width)
+abbrev pub concatTyped : ScalarType → ScalarType → ℕ → ℕ → Bool
+concatTyped h l v w = both (leb v w) (both (sameType h (ty.Bits (w - v))) (sameType l (ty.Bits v)))

@@ -1,0 +1,79 @@
+// What a builder does next, read off the region, and the plans of identity, unary, modular, slice and concat. Nothing here writes.
+pub mod single;
+pub mod slice;
+
+use evaluate::Binary;
+use evaluate::Unary;
+use fold::Masked;
+use graph::NodeId;
+use graph::Operation;
+use range::MaybeRange;
+use range::ScalarType;
+use word::Word;
+
+// What a builder does next. Offsets are u64, so that no sum of them is too large.
+pub enum Plan {
+    Give(NodeId),
+    // The Rust's None.
+    None,
+    Constant(ScalarType, Word),
+    Add(ScalarType, MaybeRange, Operation),
+    Identity(ScalarType, NodeId),
+    Unary(ScalarType, Unary, NodeId),
+    Binary(ScalarType, Binary, NodeId, NodeId),
+    Slice(NodeId, u64, u16),
+    // A slice of a node at an offset and width, as a value of the type.
+    SliceIdentity(NodeId, u64, u16, ScalarType),
+    // The low bits of a node, that many, shifted left by an Integer constant in the type.
+    SliceShift(NodeId, u16, ScalarType, Word),
+    // A constant of the first type, then an operation of the second type on the node and it.
+    ConstantBinary(ScalarType, Word, ScalarType, Binary, NodeId),
+    // And of both nodes, then Or of that and a constant.
+    AndOr(ScalarType, NodeId, NodeId, Word),
+    // Both nodes truncated to the width, then the operation on them.
+    Truncated(u16, Binary, NodeId, NodeId),
+    // A slice of the low node at an offset and width, one of the high node at 0 and a width, and their concat.
+    SplitConcat(NodeId, u64, u16, NodeId, u16, u16),
+}
+
+pub enum MaybePlan {
+    Some(Plan),
+    None,
+}
+
+// A fold that may come to None, after which its builder goes on.
+pub enum Attempt {
+    Modular(NodeId, u16),
+    Masked(Masked),
+}
+
+// Where a builder goes on, with its arguments; operands are resolved.
+pub enum Rest {
+    Unary(ScalarType, Unary, NodeId),
+    Binary(ScalarType, Binary, NodeId, NodeId),
+    Slice(NodeId, u64, u16),
+    Concat(NodeId, NodeId, u16, u16),
+}
+
+// What a builder does first.
+pub enum First {
+    Do(Plan),
+    Try(Attempt, Rest),
+}
+
+// Down a chain of Refines: the first source of a type, or the node where the chain starts.
+pub enum View {
+    Same(NodeId),
+    Source(NodeId),
+}
+
+// A slice: of which node, from which offset.
+pub struct Cut {
+    pub value: NodeId,
+    pub offset: u16,
+}
+
+pub enum MaybeCut {
+    Some(Cut),
+    None,
+}
