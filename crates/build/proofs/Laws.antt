@@ -1,23 +1,20 @@
 -- Laws of programs, each proved once whatever the builders do: units fall, fuel does not matter, and what follows an answer.
-use Prim.Native.Nat.{ℕ, zero, suc, _+_, _-_, _≤_, zero-le}
+use Prim.Native.Nat.{ℕ, zero, suc, _-_, _≤_, zero-le}
 use mathlib.Core.Path.{_≡_, refl, sym, ap, _∙_}
 use mathlib.Core.List.{List, [], _∷_}
 use mathlib.Core.Logic.{⊎-elim}
-use mathlib.Core.Option.{Option}
 use types.Run.{OneOf}
 use denote.Enum.Declared.{tagOf}
 use native.Mathlib.Nat.{le-refl, le-trans}
 use native.Mathlib.Numerals.{sub-one}
 use native.Mathlib.Omega.{arith}
-use Rattle.range.specs.Interval.{Interval}
 use Rattle.range.specs.declared.ScalarType.{ScalarType}
 use Rattle.range.specs.declared.ScalarType.the-variants as ty
 use Rattle.evaluate.specs.declared.Binary.the-variants as bi
 use Rattle.evaluate.specs.Evaluate.{reduced}
 use Rattle.evaluate.specs.U128 as u128
 use Rattle.graph.specs.Node as node
-use Rattle.graph.specs.Node.{Op}
-use Rattle.graph.specs.Insert.{Reply, id, nothing, room, units, builtOf, Made, made, inserted, constant, constantInterval}
+use Rattle.graph.specs.Insert.{Reply, id, nothing, room, units, builtOf, inserted, constant, constantInterval}
 use Rattle.graph.specs.declared.Built.{Built}
 use Rattle.graph.specs.declared.Built.the-variants as built
 use Rattle.graph.proofs.Built.{the-type}

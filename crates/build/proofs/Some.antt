@@ -1,6 +1,6 @@
 -- slice and concat always answer a node, or are refused: the source's `expect` and its plain return types are right.
 use Prim.Native.Nat.{ℕ, zero, suc, _+_, _-_}
-use mathlib.Core.Path.{_≡_, refl, sym, ap, _∙_}
+use mathlib.Core.Path.{_≡_, refl, ap, _∙_}
 use mathlib.Core.Bool.{Bool, true, false, cond, false≢true}
 use mathlib.Core.List.{List}
 use mathlib.Core.Option.{Option, none, some}
@@ -9,6 +9,7 @@ use Rattle.word.specs.Value.{residue, provided, only}
 use Rattle.range.specs.Interval.{Interval, both, one, nonnegative, insideBits, typeInterval}
 use Rattle.range.specs.declared.ScalarType.{ScalarType}
 use Rattle.range.specs.declared.ScalarType.the-variants as ty
+use Rattle.range.proofs.Sound.{tests}
 use Rattle.evaluate.specs.declared.Unary.the-variants as un
 use Rattle.evaluate.specs.declared.Binary.the-variants as bi
 use Rattle.evaluate.specs.Evaluate.{reduced}
@@ -18,12 +19,12 @@ use Rattle.graph.specs.Node.{Op, wordsOf, typeAt, rangeAt, operationAt}
 use Rattle.graph.specs.Insert.{Reply, id, nothing, room, units, Made, literal, resolve, interned, appended, foundOr, inserted, constantInterval}
 use Rattle.fold.specs.Shape.{given, sameType, fits}
 use Rattle.plan.specs.Plan as plan
-use Rattle.plan.specs.Plan.{Plan, First, Attempt, Rest}
+use Rattle.plan.specs.Plan.{Plan}
 use Rattle.build.specs.Rest.{restPlan}
-use Rattle.plan.specs.Single.{viewPlan, identityPlan}
+use Rattle.plan.specs.Single.{identityPlan}
 use Rattle.fold.specs.Bitfield.{above, Field, bitfield}
-use Rattle.plan.specs.Slice.{lowered, boundedPlan, sliceConcat, newSlice, sliceOperation, slicePart, slicePlan, sliceOpen, sliceFirst, concatPlan, cutOf, adjacent, Cut, joined, joinedPlan, fieldPlan, concatField, concatOpen, concatFirst}
-use Rattle.build.specs.Build.{Call, identity, slice, concat, Out, out, Prog, add, call, tries, answer, tail, constantThen, planProg, firstProg, attemptProg, onId, onOut, onNothing, onNone, exec, run, build, step}
+use Rattle.plan.specs.Slice.{lowered, boundedPlan, newSlice, sliceOperation, slicePart, slicePlan, sliceFirst, concatPlan, cutOf, adjacent, Cut, joined, joinedPlan, fieldPlan, concatField, concatOpen, concatFirst}
+use Rattle.build.specs.Build.{Call, identity, slice, concat, Out, out, Prog, add, call, tries, answer, tail, constantThen, planProg, firstProg, attemptProg, onId, onOut, onNone, exec, run, build}
 use Rattle.build.proofs.Laws.{reply}
 
 -- no None
@@ -128,10 +129,6 @@ part-sure g v o w =
     (either g (both (eqb o 0) (sameType (typeAt g v) (ty.Bits w))) (plan.give v) (sliceOperation (operationAt g v) v o w) tt
     (operation-sure g (operationAt g v) v o w))
 
-second-true : (a b : Bool) → both a b ≡ true → b ≡ true
-second-true true b e = e
-second-true false b e = absurd (false≢true e)
-
 plan-sure : (g : List ℕ) (v o w : ℕ) → Sure g (slicePlan g v o w)
 unfolding slicePlan
 plan-sure g v o w = by (rangeAt g v) refl
@@ -147,7 +144,7 @@ plan-sure g v o w = by (rangeAt g v) refl
     by none e = part-sure g v o w
     by (some a) e =
         choose (nonnegative a) (eqb (lowered (residue 128 (a .high)) o) 0) (both (eqb o 0) (insideBits w a))
-        (λ q. ap (fits w) e ∙ second-true (eqb o 0) (insideBits w a) q)
+        (λ q. ap (fits w) e ∙ tests (eqb o 0) (insideBits w a) q .1)
 
 -- ---- by the fuel
 

@@ -1,7 +1,7 @@
 -- What the builders build. A builder's work is a program of a few steps: add a node, call a builder, try a fold, look at the region.
 use mathlib.Core.Bool.{Bool, cond}
 use mathlib.Core.List.{List}
-use mathlib.Core.Option.{Option, none, some}
+use mathlib.Core.Option.{Option}
 use Prim.Native.Nat.{ℕ, zero, suc}
 use lib.Dec.{leb}
 use Rattle.range.specs.Interval.{Interval, both}
@@ -15,7 +15,7 @@ use Rattle.evaluate.specs.declared.Binary.{Binary}
 use Rattle.evaluate.specs.declared.Binary.the-variants as bi
 use Rattle.graph.specs.Node as node
 use Rattle.graph.specs.Node.{Op, typeAt}
-use Rattle.graph.specs.Insert.{Reply, id, nothing, room, units, Made, resolve, inserted, constantInterval}
+use Rattle.graph.specs.Insert.{Reply, id, nothing, room, units, resolve, inserted, constantInterval}
 use Rattle.fold.specs.Shape.{mask}
 use Rattle.plan.specs.Plan as plan
 use Rattle.fold.specs.Bitfield.{Mask}

@@ -2,13 +2,11 @@
 ghost use mathlib.Core.Path.{_≡_};
 ghost use lib.ListN.{length};
 ghost use Rattle.word.specs.Value.{val};
-ghost use Rattle.range.specs.declared.ScalarType.the-variants as type;
 ghost use Rattle.graph.specs.Layout.{REGION};
 ghost use Rattle.graph.specs.Insert.{builtOf};
-ghost use Rattle.build.specs.Build.{out, build, exec, isTestable, rangeProg, rangeStep, unsignedRange};
+ghost use Rattle.build.specs.Build.{out, build, exec, isTestable, rangeProg, unsignedRange};
 use crate::Budget;
 use crate::Done;
-use crate::binary;
 use crate::constant_binary;
 use evaluate::Binary;
 use graph::Built;

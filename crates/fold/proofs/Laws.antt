@@ -12,9 +12,7 @@ use lib.Count.{ones}
 use lib.Dec.{eqb, ltb}
 use Rattle.word.specs.Value.{val, isPowerOfTwo}
 use Rattle.word.specs.declared.Word.{Word}
-use Rattle.range.specs.declared.ScalarType.{ScalarType}
-use Rattle.graph.specs.Node.{typeAt}
-use Rattle.fold.specs.Shape.{sameType, refinedAt, down}
+use Rattle.fold.specs.Shape.{refinedAt, down}
 use Rattle.fold.specs.Bitfield.{Bit, BitStep, Field, bitStep, bitAt, reached, concatBit, withBit, fieldFrom}
 
 -- ---- down a chain of Refines
@@ -47,11 +45,6 @@ module _ (g : List ℕ) (high low v i : ℕ) (f : Field) (k j : ℕ) (more : k �
   field-on b l e w = rw (more, e, w, add-one)
 
 -- ---- words
-
--- the two ways to say that a number is 0
-pub zero-test : (n : ℕ) → not (ltb 0 n) ≡ eqb n 0
-zero-test zero = refl
-zero-test (suc n) = rw (lt-ltb 0 (suc n) (omega arith), ne-eqb (suc n) 0 (λ e. omega arith))
 
 -- a word whose high half is 0
 pub val-low : (n : ℕ) → val (record { lo = n; hi = 0 }) ≡ n

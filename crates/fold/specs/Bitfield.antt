@@ -1,6 +1,6 @@
 -- Single bits of nodes, and the two folds of bitfield.rs.
 use mathlib.Core.Bool.{Bool, true, false, cond, not}
-use mathlib.Core.List.{List, [], _∷_}
+use mathlib.Core.List.{List}
 use mathlib.Core.Option.{Option, none, some}
 use Prim.Native.Nat.{ℕ, zero, suc, _+_, _-_, _/_, _%_, _^_}
 use lib.Bits.{bitAnd, bitOr}

@@ -1,17 +1,17 @@
 -- What a builder reads off nodes: their types, ranges and constants, and the shapes that a fold looks for.
-use mathlib.Core.Bool.{Bool, true, false, cond}
+use mathlib.Core.Bool.{Bool, true, false}
 use mathlib.Core.List.{List, [], _∷_}
 use mathlib.Core.Option.{Option, none, some}
 use Prim.Native.Nat.{ℕ, zero, suc, min, _-_, _^_}
 use lib.Dec.{eqb, leb}
-use Rattle.range.specs.Interval.{Interval, both, one, nonnegative, insideBits}
+use Rattle.range.specs.Interval.{Interval, one, nonnegative, insideBits}
 use Rattle.range.specs.declared.ScalarType.{ScalarType}
 use Rattle.range.specs.declared.ScalarType.the-variants as ty
 use Rattle.evaluate.specs.Operator.{binaryCode}
 use Rattle.evaluate.specs.declared.Binary.{Binary}
 use Rattle.graph.specs.Layout.{LIMIT}
 use Rattle.graph.specs.Node as node
-use Rattle.graph.specs.Node.{Op, typeAt, operationAt}
+use Rattle.graph.specs.Node.{Op, operationAt}
 use Rattle.graph.specs.Insert.{literal}
 use Rattle.word.specs.Value.{val}
 use Rattle.fold.specs.declared.Chain as declared
@@ -65,11 +65,6 @@ fits w (some a) = insideBits w a
 -- the largest number of w bits
 abbrev pub mask : ℕ → ℕ
 mask w = 2 ^ min w 128 - 1
-
--- is it a constant of that value?
-abbrev pub isValue : Option ℕ → ℕ → Bool
-isValue none v = false
-isValue (some n) v = eqb n v
 
 -- is it a constant?
 abbrev pub isSome : Option ℕ → Bool

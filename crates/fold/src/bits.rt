@@ -1,12 +1,13 @@
 // One bit of a node, followed down to a constant or to the node that it comes from.
+ghost use mathlib.Core.Bool.{cond};
 ghost use mathlib.Core.Path.{_≡_};
 ghost use lib.ListN.{length};
-ghost use Prim.Native.Nat.{_≤_, _<_};
+ghost use Prim.Native.Nat.{_<_};
 ghost use Rattle.word.specs.Value.{val, numberOf};
 ghost use Rattle.graph.specs.Layout.{REGION};
 ghost use Rattle.graph.specs.Node.{opOf};
 ghost use Rattle.fold.specs.Shape.{given};
-ghost use Rattle.fold.specs.Bitfield.{stepOf, maybeBitOf, hasBit, above, maskedBit, unaryBit, bitOf, bitStep, bitAt, turned, here, source};
+ghost use Rattle.fold.specs.Bitfield.{stepOf, maybeBitOf, hasBit, above, maskedBit, unaryBit, bitOf, bitStep, bitAt, turned, here, from, flipped, source};
 use crate::Bit;
 use crate::BitStep;
 use crate::MaybeBit;
@@ -48,6 +49,16 @@ fn own(id: NodeId, index: u64) -> BitStep
     BitStep::Here(Bit::Source(id, index))
 }
 
+fn xor_bit(set: bool, base: NodeId, index: u64) -> BitStep
+    ensures { λ r. ⌜ stepOf r ≡ cond set (flipped (base .0) index) (from (base .0) index) ⌝ }
+{
+    if set {
+        BitStep::Flipped(base, index)
+    } else {
+        BitStep::From(base, index)
+    }
+}
+
 // A bit of an And, Or or Xor with a constant whose bit is set or not.
 fn masked_bit(op: Binary, id: NodeId, set: bool, base: NodeId, index: u64) -> BitStep
     ensures { λ r. ⌜ stepOf r ≡ maskedBit op (id .0) set (base .0) index ⌝ }
@@ -70,13 +81,7 @@ fn masked_bit(op: Binary, id: NodeId, set: bool, base: NodeId, index: u64) -> Bi
                 BitStep::From(base, index)
             }
         }
-        Binary::Xor => {
-            if set {
-                BitStep::Flipped(base, index)
-            } else {
-                BitStep::From(base, index)
-            }
-        }
+        Binary::Xor => xor_bit(set, base, index),
         Binary::ShiftLeft => own(id, index),
         Binary::ShiftRight => own(id, index),
         Binary::ArithmeticShiftRight => own(id, index),

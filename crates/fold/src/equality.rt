@@ -1,7 +1,7 @@
 // A base compared with itself under a mask.
 ghost use mathlib.Core.Path.{_≡_};
 ghost use lib.ListN.{length};
-ghost use Rattle.word.specs.Value.{val, numberOf};
+ghost use Rattle.word.specs.Value.{val};
 ghost use Rattle.graph.specs.Layout.{REGION};
 ghost use mathlib.Core.Option.{some};
 ghost use Rattle.range.specs.declared.ScalarType.the-variants as ty;

@@ -1,6 +1,5 @@
 // The bits of a concat, where each is known or one node's own at its place.
 ghost use mathlib.Core.Path.{_≡_};
-ghost use Prim.Native.Nat.{_^_, _%_};
 ghost use lib.ListN.{length};
 ghost use Rattle.word.specs.Value.{val};
 ghost use Rattle.graph.specs.Layout.{REGION};

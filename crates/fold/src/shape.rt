@@ -1,11 +1,11 @@
 // What the folds read off nodes: equality of types, ranges that fit, and the shapes that they look for.
 ghost use mathlib.Core.Path.{_≡_};
 ghost use lib.ListN.{length};
-ghost use Rattle.word.specs.Value.{val, numberOf};
+ghost use Rattle.word.specs.Value.{numberOf};
 ghost use Rattle.range.specs.Interval.{intervalOf};
 ghost use Rattle.graph.specs.Layout.{REGION};
 ghost use Rattle.graph.specs.Node.{opOf};
-ghost use Rattle.fold.specs.Shape.{sameType, narrowType, notNegative, fits, isValue, isSome, chained, maybeChainOf, chainOf, chainAt, idOf, refinedOf, refinedAt, origin};
+ghost use Rattle.fold.specs.Shape.{sameType, narrowType, notNegative, fits, isSome, chained, maybeChainOf, chainAt, idOf, refinedOf, refinedAt, origin};
 use crate::Chain;
 use crate::MaybeChain;
 use crate::MaybeId;

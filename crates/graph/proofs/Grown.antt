@@ -1,5 +1,5 @@
 -- What question 1 says: the facts of a graph, those of one of its nodes, and where the chains of its aliases end. Assumes nothing.
-use mathlib.Core.Path.{_≡_, refl, sym, _∙_}
+use mathlib.Core.Path.{_≡_, refl, _∙_}
 use mathlib.Core.Bool.{Bool, true, false, cond, false≢true}
 use mathlib.Core.List.{List, [], _∷_}
 use mathlib.Core.Logic.{_⊎_, inl, inr, ⊎-elim}
@@ -19,13 +19,9 @@ use Rattle.graph.specs.Node as node
 use Rattle.graph.specs.Node.{Op, narrow, pair, operationOf, operationAt, aliasAt}
 use Rattle.graph.specs.Insert.{start, follow, resolve}
 use Rattle.graph.specs.WellFormed.{isType, isRange, areFields, isOperation, isAlias, isNode, areNodes, areZeros, isGraph}
-use Rattle.graph.proofs.Tests.{nodes-off}
+use Rattle.graph.proofs.Tests.{pass-of, all-pass}
 
 -- ---- tests
-
-decided : (t : Bool) → (t ≡ false → t ≡ true) → t ≡ true
-decided true f = refl
-decided false f = f refl
 
 -- what the passed tests of a chain show of what a second chain picks by them
 picked : {A : Type 0} (P : A → Type 0) (t : Bool) {a b : Bool} {x y : A} → (a ≡ true → P x) → (b ≡ true → P y) → cond t a b ≡ true → P (cond t x y)
@@ -43,13 +39,6 @@ pub record Graph (g : List ℕ) : Type 0 where
   pub count : countOf g ≤ LIMIT
   pub node : (n : ℕ) → n < countOf g → isNode g (countOf g) n ≡ true
   pub rest : (i : ℕ) → nodeStart (countOf g) ≤ i → getD g i 0 ≡ 0
-
-node-of : (g : List ℕ) (count m : ℕ) → areNodes g count m ≡ true → (n : ℕ) → n < m → isNode g count n ≡ true
-node-of g count m e n h = decided (isNode g count n) (λ q. q ∙ sym (nodes-off g count n q m h) ∙ e)
-
-nodes-of : (g : List ℕ) (count m : ℕ) → ((n : ℕ) → n < m → isNode g count n ≡ true) → areNodes g count m ≡ true
-nodes-of g count zero h = refl
-nodes-of g count (suc m) h = rw (nodes-of g count m (λ n l. h n (omega arith))) (h m (omega arith))
 
 zero-of : (l : List ℕ) → areZeros l ≡ true → (i : ℕ) → getD l i 0 ≡ 0
 zero-of [] e i = refl
@@ -71,7 +60,7 @@ module _ (g : List ℕ) where
       record {
         length = eqb-true (list.length g) REGION (d .0);
         count = leb-true (countOf g) LIMIT (f .0);
-        node = node-of g (countOf g) (countOf g) (h .0);
+        node = pass-of (isNode g (countOf g)) (countOf g) (h .0);
         rest = λ i l.
             let q : s + (i - s) ≡ i = omega arith in
             rw (← q, ← getD-drop s g (i - s) 0) (zero-of (drop s g) (h .1) (i - s));
@@ -81,7 +70,7 @@ module _ (g : List ℕ) where
   unfolding isGraph
   facts-graph f =
       let s = nodeStart (countOf g) in
-      rw (eq-eqb (list.length g) REGION (f .length), le-leb (countOf g) LIMIT (f .count), nodes-of g (countOf g) (countOf g) (f .node))
+      rw (eq-eqb (list.length g) REGION (f .length), le-leb (countOf g) LIMIT (f .count), all-pass (isNode g (countOf g)) (countOf g) (f .node))
       (zeros-of (drop s g) (λ i. getD-drop s g i 0 ∙ f .rest (s + i) (omega arith)))
 
 -- ---- one node

@@ -5,3 +5,4 @@ pub mod Grown
 pub mod Search
 pub mod Interned
 pub mod Kept
+pub mod Wiping

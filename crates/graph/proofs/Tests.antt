@@ -1,5 +1,5 @@
 -- The tests of a node's words by their codes, and one turn of each loop over the nodes and the words. Assumes nothing.
-use mathlib.Core.Path.{_≡_, refl}
+use mathlib.Core.Path.{_≡_, refl, sym, _∙_}
 use mathlib.Core.Bool.{Bool, true, false, not, cond}
 use mathlib.Core.List.{List}
 use mathlib.Core.Logic.{⊎-elim}
@@ -12,7 +12,7 @@ use lib.ListN.{length, getD, drop, drop-of-length-le}
 use lib.Seq.{drop-cons}
 use Rattle.word.proofs.Integer.{lt-or-ge}
 use Rattle.range.specs.Interval.{both}
-use Rattle.graph.specs.WellFormed.{areFields, isOperation, isNode, areNodes, areZeros}
+use Rattle.graph.specs.WellFormed.{areFields, isOperation, allPass, areZeros}
 
 -- from code 10 on only the operators are left
 pub operators : (n code x y z : ℕ) → 10 ≤ code
@@ -35,22 +35,39 @@ pub zero-test : (n : ℕ) → not (ltb 0 n) ≡ eqb n 0
 zero-test zero = refl
 zero-test (suc n) = rw (lt-ltb 0 (suc n) (omega arith), ne-eqb (suc n) 0 (λ e. omega arith))
 
--- ---- are_nodes: one node more, and a node that fails
+-- ---- a test of all numbers below another: one number more, one that fails, and each by itself
+
+-- one test is that test and no other
+pub both-true : (t : Bool) → t ≡ both t true
+both-true true = refl
+both-true false = refl
 
 both-false : (t : Bool) → both t false ≡ false
 both-false true = refl
 both-false false = refl
 
-module _ (g : List ℕ) (count n : ℕ) where
-  pub nodes-on : areNodes g count n ≡ true → isNode g count n ≡ true → areNodes g count (n + 1) ≡ true
-  nodes-on e f = rw (add-one n, e, f)
+decided : (t : Bool) → (t ≡ false → t ≡ true) → t ≡ true
+decided true f = refl
+decided false f = f refl
 
-  pub nodes-off : isNode g count n ≡ false → (m : ℕ) → n < m → areNodes g count m ≡ false
-  nodes-off e zero h = absurd (omega arith)
-  nodes-off e (suc m) h =
-      ⊎-elim (λ l. rw (nodes-off e m l))
-      (λ l. let q : m ≡ n = omega arith in rw (q, e) (both-false (areNodes g count n)))
-      (lt-or-ge n m)
+module _ (p : ℕ → Bool) where
+  module _ (n : ℕ) where
+    pub pass-on : allPass p n ≡ true → p n ≡ true → allPass p (n + 1) ≡ true
+    pass-on e f = rw (add-one n, e, f)
+
+    pub pass-off : p n ≡ false → (m : ℕ) → n < m → allPass p m ≡ false
+    pass-off e zero h = absurd (omega arith)
+    pass-off e (suc m) h =
+        ⊎-elim (λ l. rw (pass-off e m l))
+        (λ l. let q : m ≡ n = omega arith in rw (q, e) (both-false (allPass p n)))
+        (lt-or-ge n m)
+
+  pub pass-of : (m : ℕ) → allPass p m ≡ true → (n : ℕ) → n < m → p n ≡ true
+  pass-of m e n h = decided (p n) (λ q. q ∙ sym (pass-off n q m h) ∙ e)
+
+  pub all-pass : (m : ℕ) → ((n : ℕ) → n < m → p n ≡ true) → allPass p m ≡ true
+  all-pass zero h = refl
+  all-pass (suc m) h = rw (all-pass m (λ n l. h n (omega arith))) (h m (omega arith))
 
 -- ---- are_zeros: a zero passed, another word, and the end
 

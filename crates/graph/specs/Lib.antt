@@ -2,3 +2,4 @@ pub mod Layout
 pub mod Node
 pub mod Insert
 pub mod WellFormed
+pub mod Clear

@@ -52,10 +52,14 @@ isNode g count n =
     (isRange (wordAt g n 0) (wordAt g n 1) (wordAt g n 2) (pair (wordAt g n 3) (wordAt g n 4)) (pair (wordAt g n 5) (wordAt g n 6)))
     (both (isAlias n count (wordAt g n 11)) (isOperation n (wordAt g n 7) (wordAt g n 8) (wordAt g n 9) (wordAt g n 10))))
 
+-- do all numbers below m pass a test?
+abbrev pub allPass : (ℕ → Bool) → ℕ → Bool
+allPass p zero = true
+allPass p (suc m) = both (allPass p m) (p m)
+
 -- the first m nodes
 abbrev pub areNodes : List ℕ → ℕ → ℕ → Bool
-areNodes g count zero = true
-areNodes g count (suc m) = both (areNodes g count m) (isNode g count m)
+areNodes g count m = allPass (isNode g count) m
 
 -- are all of these words 0?
 abbrev pub areZeros : List ℕ → Bool

@@ -56,7 +56,7 @@ fn find(g: &[u64], from: u64, words: &[u64; SIZE]) -> Found
 }
 
 // Puts the words of a node at `at`.
-fn store(g: &mut [u64], at: usize, words: &[u64; SIZE])
+pub fn store(g: &mut [u64], at: usize, words: &[u64; SIZE])
     requires { ⌜ (at + WORDS ≤ length (now g)) × (length (now words) ≡ WORDS) ⌝ }
     ensures { λ _. ⌜ now (g .exit) ≡ paste (now (g .entry)) at (now (words .entry)) WORDS ⌝ }
 {

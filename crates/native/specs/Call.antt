@@ -1,5 +1,5 @@
 -- The calls on the words of the region: the questions in document 01's order, then the work.
-use mathlib.Core.Bool.{Bool, true, cond}
+use mathlib.Core.Bool.{Bool, true, false, cond}
 use mathlib.Core.List.{List}
 use mathlib.Core.Option.{Option, none, some}
 use Prim.Native.Nat.{ℕ, _-_, _^_}
@@ -55,12 +55,16 @@ settled graph.nothing = nothing
 settled graph.room = refused 7
 settled graph.units = refused 8
 
+-- is a builder's answer a refusal, 7 or 8?
+abbrev pub isRefused : Reply → Bool
+isRefused (graph.id n) = false
+isRefused graph.nothing = false
+isRefused graph.room = true
+isRefused graph.units = true
+
 -- which region a builder's answer leaves: after a refusal the one that it was handed
 abbrev pub leaves : List ℕ → Reply → List ℕ → List ℕ
-leaves g (graph.id n) h = h
-leaves g graph.nothing h = h
-leaves g graph.room h = g
-leaves g graph.units h = g
+leaves g a h = cond (isRefused a) g h
 
 -- what a call answers and leaves, by its builder's answer and words
 abbrev pub finished : List ℕ → Made → Called

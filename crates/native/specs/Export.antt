@@ -29,11 +29,15 @@ abbrev pub typeOf : MaybeType → Option ScalarType
 typeOf (named.Some t) = some t
 typeOf named.None = none
 
--- 0 Bool and 2 Integer, both of width 0, and 1 Bits; a width past a u16 stays past 128
+-- a width as a u16; a larger one stays past 128
+abbrev pub clamped : ℕ → ℕ
+clamped n = min n (2 ^ 16 - 1)
+
+-- 0 Bool and 2 Integer, both of width 0, and 1 Bits
 abbrev pub typeByCode : ℕ → ℕ → Option ScalarType
 typeByCode code width =
     cond (eqb code 0) (cond (eqb width 0) (some ty.Bool) none)
-    (cond (eqb code 1) (some (ty.Bits (min width (2 ^ 16 - 1))))
+    (cond (eqb code 1) (some (ty.Bits (clamped width)))
     (cond (eqb code 2) (cond (eqb width 0) (some ty.Integer) none) none))
 
 -- a number, and the words after the call
@@ -92,10 +96,6 @@ unaryNamed unaries.None = none
 abbrev pub binaryNamed : MaybeBinary → Option Binary
 binaryNamed (binaries.Some o) = some o
 binaryNamed binaries.None = none
-
--- a width as a u16; a larger one stays past 128
-abbrev pub clamped : ℕ → ℕ
-clamped n = min n (2 ^ 16 - 1)
 
 -- 10 to 16; the first three have no parameter, so it is 0
 abbrev pub isUnary : ℕ → ℕ → Bool

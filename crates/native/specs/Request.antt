@@ -1,23 +1,21 @@
 -- The builders that are open to callers: what is asked of a request, and what it comes to.
-use mathlib.Core.Bool.{Bool, true, false, cond}
+use mathlib.Core.Bool.{Bool, true, cond}
 use mathlib.Core.List.{List, [], _∷_}
-use Prim.Native.Nat.{ℕ, _+_, _≤_, _<_}
-use mathlib.Core.Path.{_≡_}
+use Prim.Native.Nat.{ℕ}
 use lib.Dec.{leb, ltb}
-use lib.ListN.{length, getD}
 use Rattle.range.specs.Interval.{both}
 use Rattle.range.specs.declared.ScalarType.{ScalarType}
 use Rattle.evaluate.specs.Operator.{typeWidth, unaryWidth}
 use Rattle.evaluate.specs.declared.Unary.{Unary}
 use Rattle.evaluate.specs.declared.Binary.{Binary}
-use Rattle.graph.specs.Layout.{countOf, nodeStart}
+use Rattle.graph.specs.Layout.{countOf}
 use Rattle.graph.specs.Node.{typeAt}
-use Rattle.graph.specs.Insert as graph
+use Rattle.graph.specs.Clear.{cleared}
 use Rattle.graph.specs.Insert.{Reply, Made, made}
 use Rattle.build.specs.Build as build
 use Rattle.build.specs.Build.{Out, out}
 use Rattle.native.specs.Typing.{unaryTyped, binaryTyped, concatTyped}
-use Rattle.native.specs.Call.{Called, refusal, finished, question1}
+use Rattle.native.specs.Call.{Called, isRefused, refusal, finished, question1}
 
 -- a call of a builder
 pub data Request : Type 0 where
@@ -92,16 +90,6 @@ requestCall g q = question1 g (requestInGraph g q)
 
 -- ---- taking back what a refused call added
 
--- k is h with n nodes: n as the count, the words of those nodes, and zeros past them
-pub record Undone (n : ℕ) (h k : List ℕ) : Type 0 where
-  pub size : length k ≡ length h
-  pub count : countOf k ≡ n
-  pub kept : (i : ℕ) → 0 < i → i < nodeStart n → getD k i 0 ≡ getD h i 0
-  pub empty : (i : ℕ) → nodeStart n ≤ i → getD k i 0 ≡ 0
-
 -- what a builder's answer leaves of the words h: after a refusal those of the first n nodes
-abbrev pub Left : ℕ → Reply → List ℕ → List ℕ → Type 0
-Left n (graph.id i) h k = k ≡ h
-Left n graph.nothing h k = k ≡ h
-Left n graph.room h k = Undone n h k
-Left n graph.units h k = Undone n h k
+abbrev pub left : ℕ → Reply → List ℕ → List ℕ
+left n a h = cond (isRefused a) (cleared n h) h

@@ -2,6 +2,7 @@
 pub mod declare;
 pub mod export;
 pub mod export_operate;
+pub mod keep;
 pub mod look;
 pub mod operate;
 pub mod typing;
@@ -9,6 +10,7 @@ pub mod typing;
 ghost use mathlib.Core.Path.{_≡_};
 ghost use Rattle.graph.specs.Insert.{builtOf};
 ghost use Rattle.native.specs.Call.{answerOf, settled, answerNumber};
+ghost use Rattle.native.specs.Retain.{outcomeOf, outcomeNumber};
 use evaluate::Binary;
 use evaluate::Refusal;
 use evaluate::Unary;
@@ -20,6 +22,12 @@ use range::ScalarType;
 pub enum Answer {
     Id(NodeId),
     None,
+    Refused(Refusal),
+}
+
+// The number of nodes that a retain left, or a refusal.
+pub enum Retained {
+    Kept(u64),
     Refused(Refusal),
 }
 
@@ -49,6 +57,18 @@ impl Answer {
             Answer::Id(id) => id.0,
             Answer::None => u64::MAX,
             Answer::Refused(refusal) => u64::MAX - refusal.number(),
+        }
+    }
+}
+
+impl Retained {
+    // The outcome as one number: the refusals count down from the largest.
+    pub fn number(self) -> u64
+        ensures { λ r. ⌜ r ≡ outcomeNumber (outcomeOf self) ⌝ }
+    {
+        match self {
+            Retained::Kept(nodes) => nodes,
+            Retained::Refused(refusal) => u64::MAX - refusal.number(),
         }
     }
 }

@@ -8,10 +8,11 @@ ghost use Rattle.word.specs.Value.{val};
 ghost use Rattle.graph.specs.Insert.{builtOf};
 ghost use Rattle.graph.specs.Layout.{REGION, LIMIT};
 ghost use Rattle.graph.specs.WellFormed.{isGraph};
-ghost use Rattle.native.specs.Call.{answerOf, called, settled};
+ghost use Rattle.native.specs.Call.{answerOf, called, settled, isRefused};
 ghost use Rattle.native.specs.Request as request;
-ghost use Rattle.native.specs.Request.{UNITS, allUpTo, allBelow, Undone, Left, requestInGraph, requestCall};
+ghost use Rattle.native.specs.Request.{UNITS, allUpTo, allBelow, left, requestInGraph, requestCall};
 use crate::Answer;
+use crate::answer_to;
 use crate::typing::is_binary_typed;
 use crate::typing::is_concat_typed;
 use crate::typing::is_unary_typed;
@@ -24,8 +25,7 @@ use evaluate::Unary;
 use evaluate::type_width;
 use graph::Built;
 use graph::NodeId;
-use graph::layout::FIRST;
-use graph::layout::WORDS;
+use graph::clear::clear_from;
 use graph::layout::count;
 use graph::read::type_at;
 use graph::well_formed::is_graph;
@@ -75,37 +75,36 @@ fn are_ids(nodes: u64, first: NodeId, second: NodeId) -> bool
     }
 }
 
-// Takes back all nodes from `nodes` on.
-fn roll_back(g: &mut [u64], nodes: u64)
-    requires { ⌜ (length (now g) ≡ REGION) × (nodes ≤ LIMIT) ⌝ }
-    ensures { λ _. ⌜ Undone nodes (now (g .entry)) (now (g .exit)) ⌝ }
+// Did the builder meet 7 or 8?
+fn is_refused(built: Built) -> bool
+    ensures { λ r. ⌜ r ≡ isRefused (builtOf built) ⌝ }
 {
-    g[0] = nodes;
-    let mut at = (FIRST + WORDS * nodes) as usize;
-    while at < g.len() {
-        g[at] = 0;
-        at += 1;
+    match built {
+        Built::Id(_) => false,
+        Built::None => false,
+        Built::Room => true,
+        Built::Units => true,
     }
 }
 
-// A builder's answer to a caller. A refusal takes back what was added since there were `nodes` nodes.
+// A refusal takes back what was added since there were `nodes` nodes.
+fn undo_refused(g: &mut [u64], nodes: u64, built: Built)
+    requires { ⌜ (length (now g) ≡ REGION) × (nodes ≤ LIMIT) ⌝ }
+    ensures { λ _. ⌜ now (g .exit) ≡ left nodes (builtOf built) (now (g .entry)) ⌝ }
+{
+    if is_refused(built) {
+        clear_from(g, nodes);
+    }
+}
+
+// A builder's answer to a caller, after what it leaves.
 fn settle(g: &mut [u64], nodes: u64, done: Done) -> Answer
     requires { ⌜ (length (now g) ≡ REGION) × (nodes ≤ LIMIT) ⌝ }
-    ensures { λ r. ⌜ (answerOf r ≡ settled (builtOf (done .built))) × Left nodes (builtOf (done .built)) (now (g .entry)) (now (g .exit)) ⌝ }
+    ensures { λ r. ⌜ (answerOf r ≡ settled (builtOf (done .built))) × (now (g .exit) ≡ left nodes (builtOf (done .built)) (now (g .entry))) ⌝ }
 {
     let built = done.built;
-    match built {
-        Built::Id(id) => Answer::Id(id),
-        Built::None => Answer::None,
-        Built::Room => {
-            roll_back(g, nodes);
-            Answer::Refused(Refusal::Room)
-        }
-        Built::Units => {
-            roll_back(g, nodes);
-            Answer::Refused(Refusal::Units)
-        }
-    }
+    undo_refused(g, nodes, built);
+    answer_to(built)
 }
 
 pub fn unary_in_graph(g: &mut [u64], ty: ScalarType, op: Unary, value: NodeId) -> Answer

@@ -1,6 +1,6 @@
 -- The plans of identity, unary and modular.
 use mathlib.Core.Bool.{Bool, true, false, cond}
-use mathlib.Core.List.{List, [], _∷_}
+use mathlib.Core.List.{List}
 use mathlib.Core.Option.{Option, none, some}
 use Prim.Native.Nat.{ℕ, zero, suc, _-_}
 use lib.Dec.{eqb, ltb, leb}
@@ -11,8 +11,6 @@ use Rattle.evaluate.specs.Evaluate.{evaluateUnary}
 use Rattle.evaluate.specs.Operator.{unaryWidth}
 use Rattle.evaluate.specs.declared.Unary.{Unary}
 use Rattle.evaluate.specs.declared.Unary.the-variants as un
-use Rattle.evaluate.specs.declared.Binary.{Binary}
-use Rattle.evaluate.specs.declared.Binary.the-variants as bi
 use Rattle.graph.specs.Layout.{LIMIT}
 use Rattle.graph.specs.Node as node
 use Rattle.graph.specs.Node.{Op, typeAt, rangeAt, operationAt}

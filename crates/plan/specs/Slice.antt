@@ -1,14 +1,12 @@
 -- The plans of slice and concat.
-use mathlib.Core.Bool.{Bool, true, false, cond}
+use mathlib.Core.Bool.{cond}
 use mathlib.Core.List.{List}
 use mathlib.Core.Option.{Option, none, some}
 use Prim.Native.Nat.{ℕ, _+_, _-_, _*_, _/_, _%_, _^_}
 use lib.Bits.{bitOr}
 use lib.Dec.{eqb, ltb, leb}
-use lib.IntN.{ℤ}
 use Rattle.word.specs.Value.{residue, provided, only}
 use Rattle.range.specs.Interval.{Interval, both, one, nonnegative, typeInterval, insideBits}
-use Rattle.range.specs.declared.ScalarType.{ScalarType}
 use Rattle.range.specs.declared.ScalarType.the-variants as ty
 use Rattle.evaluate.specs.declared.Binary.the-variants as bi
 use Rattle.graph.specs.Node as node

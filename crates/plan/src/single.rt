@@ -2,7 +2,7 @@
 ghost use mathlib.Core.Path.{_≡_};
 ghost use lib.ListN.{length};
 ghost use Rattle.range.specs.Interval.{intervalOf};
-ghost use Rattle.word.specs.Value.{val, numberOf};
+ghost use Rattle.word.specs.Value.{numberOf};
 ghost use Rattle.graph.specs.Layout.{REGION};
 ghost use Rattle.graph.specs.Node.{opOf};
 ghost use Rattle.plan.specs.Plan.{planOf, firstOf, constantOr};

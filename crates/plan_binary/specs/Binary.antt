@@ -1,8 +1,8 @@
 -- The plan of binary: its decisions in the order of native.rs 323 to 611.
-use mathlib.Core.Bool.{Bool, true, false, cond, not}
-use mathlib.Core.List.{List, [], _∷_}
+use mathlib.Core.Bool.{Bool, cond, not}
+use mathlib.Core.List.{List}
 use mathlib.Core.Option.{Option, none, some}
-use Prim.Native.Nat.{ℕ, _+_, _-_, _*_, _/_, _%_, _^_}
+use Prim.Native.Nat.{ℕ, _+_, _-_}
 use lib.Bits.{bitAnd}
 use lib.Dec.{eqb, ltb, leb}
 use Rattle.word.specs.Value.{provided, only, isPowerOfTwo}
@@ -17,7 +17,7 @@ use Rattle.graph.specs.Node as node
 use Rattle.graph.specs.Node.{typeAt, rangeAt}
 use Rattle.graph.specs.Insert.{literal}
 use Rattle.fold.specs.Operator.{commutative, shifts, equalities, zeroKeeps, zeroMakesZero, bitwise}
-use Rattle.fold.specs.Shape.{given, sameType, narrowType, sameBinary, isAny, fits, mask, isValue, isSome, Chain, chainAt, origin}
+use Rattle.fold.specs.Shape.{given, sameType, narrowType, sameBinary, isAny, fits, mask, isSome, Chain, chainAt, origin}
 use Rattle.fold.specs.Range.{bothGiven, binaryRange, comparison}
 use Rattle.fold.specs.Bitfield.{maskedComparison}
 use Rattle.plan.specs.Plan as plan

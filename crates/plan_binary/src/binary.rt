@@ -70,11 +70,9 @@ fn evaluated(ty: ScalarType, op: Binary, left: MaybeWord, right: MaybeWord) -> M
 fn compared_plan(op: Binary, left: MaybeRange, right: MaybeRange) -> MaybePlan
     ensures { λ r. ⌜ decidedOf r ≡ comparedPlan op (intervalOf left) (intervalOf right) ⌝ }
 {
-    let truth = compared(op, left, right);
-    match truth {
-        MaybeBool::Some(value) => {
-            MaybePlan::Some(Plan::Constant(ScalarType::Bool, from_bool(value)))
-        }
+    let known = compared(op, left, right);
+    match known {
+        MaybeBool::Some(value) => truth(value),
         MaybeBool::None => MaybePlan::None,
     }
 }

@@ -71,6 +71,8 @@ pub enum Answer {
     None,
     Refused(u64),
     Is(bool),
+    // The nodes that a retain left.
+    Kept(u64),
     // A lent word outside the region was changed that had to stay.
     Spoilt,
 }
@@ -79,6 +81,11 @@ pub enum Answer {
 pub trait Side {
     // Answers a call on the region, and leaves the region as the call does.
     fn call(&mut self, region: &mut [u64], call: &Call) -> Answer;
+
+    // A retain with the lent mapping, where the side has it.
+    fn retain(&mut self, _: &mut [u64], _: &[u8], _: &mut [u64]) -> Option<Answer> {
+        None
+    }
 
     // Can it be asked this? What only numbers can say, as a type that there is not, is left out where it can't.
     fn takes(&self, call: &Call) -> bool;

@@ -1,6 +1,6 @@
 // The classes of regions, and a round through them.
 use crate::call::{Answer, Call};
-use crate::compare::{Comparison, Difference};
+use crate::compare::Comparison;
 use crate::edges::{self, Step};
 use crate::generate::{Source, Spread};
 use crate::lines::HELD;
@@ -30,7 +30,7 @@ pub fn kind_of(class: &str) -> Kind {
     }
 }
 
-pub type Outcome = Result<(), Box<Difference>>;
+pub type Outcome = Result<(), String>;
 
 // A region that calls have grown, and the graph that the original has grown beside it.
 struct List {
@@ -71,7 +71,7 @@ impl Rounds {
         self.begin(class, Graph::default())
     }
 
-    fn call_on(&mut self, list: &mut List, call: &Call) -> Result<Answer, Box<Difference>> {
+    fn call_on(&mut self, list: &mut List, call: &Call) -> Result<Answer, String> {
         let List { region, graph } = list;
         self.comparison.call_grown(region, graph, call)
     }
@@ -98,16 +98,40 @@ impl Rounds {
         self.comparison.is_twin = false;
     }
 
+    // Retains of each kind on copies of the region.
+    fn retains_on(&mut self, class: &'static str, region: &[u64]) -> Outcome {
+        self.comparison.start(class, region);
+        for retain in self.source.retains(&readable(region)) {
+            self.comparison.is_twin = self.source.random.once_in(2);
+            self.comparison.retain(&mut region.to_vec(), &retain)?;
+        }
+        self.comparison.is_twin = false;
+        Ok(())
+    }
+
+    // A retain in the midst of a list.
+    fn retain_in(&mut self, list: &mut List) -> Outcome {
+        let retain = self.source.retain(&list.graph.scalars);
+        let List { region, graph } = list;
+        self.comparison.retain_grown(region, graph, &retain)?;
+        self.source.forget();
+        Ok(())
+    }
+
     fn grown(&mut self) -> Outcome {
         let mut list = self.begin_empty(GROWN);
         let calls = 60 + self.source.random.below(400);
         self.grow(&mut list, calls, Spread::Few)?;
+        for _ in 0..self.source.random.below(4) {
+            self.retain_in(&mut list)?;
+            self.grow(&mut list, 30, Spread::Few)?;
+        }
         self.end(&list);
-        Ok(())
+        self.retains_on(GROWN, &list.region)
     }
 
     // A list in which some value is doubled again and again, so that a reduction of it is dear.
-    fn doubled(&mut self, list: &mut List) -> Result<u64, Box<Difference>> {
+    fn doubled(&mut self, list: &mut List) -> Result<u64, String> {
         let width = self.source.width().max(9);
         let ty = ScalarType::Bits(width).into();
         let leaf = Call::Effect { number: 0, ty };
@@ -213,6 +237,7 @@ impl Rounds {
         self.damages[kind][0] += 1;
         self.damages[kind][1] += u64::from(!is_graph);
         let class = if is_graph { PASSING } else { DAMAGED };
+        self.retains_on(class, &damaged)?;
         self.each_call_on(class, &mut damaged)
     }
 
@@ -221,6 +246,7 @@ impl Rounds {
         let len = self.source.random.pick(&LENGTHS);
         let mut region = self.good_region();
         region.resize(len, 0);
+        self.retains_on(LENGTH, &region)?;
         self.each_call_on(LENGTH, &mut region)
     }
 
@@ -256,6 +282,7 @@ impl Rounds {
         }
         for _ in 0..5 {
             let mut region = self.source.other_region();
+            self.retains_on(OTHER, &region)?;
             self.calls_on(OTHER, &mut region, 16)?;
         }
         let good = self.good_region();

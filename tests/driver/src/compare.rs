@@ -19,7 +19,7 @@ pub struct Counts {
 }
 
 // A call that the two sides answer or perform differently.
-pub struct Difference {
+struct Difference {
     region: Vec<u64>,
     call: Call,
     right: (Answer, Vec<u64>),
@@ -33,12 +33,14 @@ pub struct Comparison {
     pub twin: Option<Box<dyn Side>>,
     pub is_twin: bool,
     pub counts: BTreeMap<&'static str, Counts>,
-    class: &'static str,
+    // The retains by class and kind.
+    pub retains: BTreeMap<&'static str, BTreeMap<&'static str, u64>>,
+    pub class: &'static str,
     // The words as the original has them: before a call those of the region, after it those that must be there.
-    right: Vec<u64>,
+    pub right: Vec<u64>,
 }
 
-const REFUSALS: [&str; 9] = [
+pub const REFUSALS: [&str; 9] = [
     "refused 0",
     "refused 1",
     "refused 2",
@@ -58,6 +60,7 @@ fn name_of(count: u64, call: &Call, answer: Answer) -> &'static str {
         (_, Answer::Id(id)) if id >= count => "new node",
         (_, Answer::Id(_)) => "old node",
         (_, Answer::Value(_)) => "value",
+        (_, Answer::Kept(_)) => "kept",
         (_, Answer::None) => "none",
         (_, Answer::Refused(number)) => REFUSALS[number as usize],
         (_, Answer::Is(true)) => "is a graph",
@@ -67,7 +70,7 @@ fn name_of(count: u64, call: &Call, answer: Answer) -> &'static str {
 }
 
 // Small numbers in decimal, others in hex.
-fn shown(words: &[u64]) -> String {
+pub fn shown(words: &[u64]) -> String {
     let texts: Vec<String> = words
         .iter()
         .map(|word| match word {
@@ -79,7 +82,7 @@ fn shown(words: &[u64]) -> String {
 }
 
 // A line for the count, one for each node, and one for each twelve words past them that are not 0.
-fn described(region: &[u64]) -> String {
+pub fn described(region: &[u64]) -> String {
     let mut text = format!("  {} words", region.len());
     let Some((count, rest)) = region.split_first() else {
         return text + "\n";
@@ -95,7 +98,7 @@ fn described(region: &[u64]) -> String {
 }
 
 impl Difference {
-    pub fn described(&self) -> String {
+    fn described(&self) -> String {
         let mut text = format!("call: {:?}\non:\n{}", self.call, described(&self.region));
         let tier = if self.is_twin { " in graph" } else { "" };
         let _ = writeln!(text, "original: {:?}", self.right.0);
@@ -117,6 +120,7 @@ impl Comparison {
             twin,
             is_twin: false,
             counts: BTreeMap::new(),
+            retains: BTreeMap::new(),
             class: "",
             right: vec![],
         }
@@ -175,7 +179,7 @@ impl Comparison {
         call: &Call,
         right: Answer,
         count: u64,
-    ) -> Result<Answer, Box<Difference>> {
+    ) -> Result<Answer, String> {
         let found = self.ask(region, call, right);
         if found == right && region == self.right {
             self.count(call, right, count);
@@ -188,11 +192,11 @@ impl Comparison {
             found: (found, region.to_vec()),
             is_twin: self.is_twin,
         };
-        Err(Box::new(self.smaller(difference)))
+        Err(self.smaller(difference).described())
     }
 
     // A call on the region that was placed, from which the original's maps are filled.
-    pub fn call(&mut self, region: &mut [u64], call: &Call) -> Result<Answer, Box<Difference>> {
+    pub fn call(&mut self, region: &mut [u64], call: &Call) -> Result<Answer, String> {
         let count = self.right.first().copied().unwrap_or(0);
         let right = Original.call(&mut self.right, call);
         self.settle(region, call, right, count)
@@ -204,7 +208,7 @@ impl Comparison {
         region: &mut [u64],
         graph: &mut Graph,
         call: &Call,
-    ) -> Result<Answer, Box<Difference>> {
+    ) -> Result<Answer, String> {
         let count = graph.scalars.len();
         let right = apply(graph, call);
         encode_from(graph, count, &mut self.right);

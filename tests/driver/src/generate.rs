@@ -325,6 +325,12 @@ impl Source {
         self.single(scalars, spread)
     }
 
+    // The nodes have other ids now.
+    pub fn forget(&mut self) {
+        self.plan = Plan::default();
+        self.odd.clear();
+    }
+
     pub fn hear(&mut self, answer: Answer) {
         self.plan.hear(answer);
     }

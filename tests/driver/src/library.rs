@@ -1,6 +1,6 @@
 // The proved library's side, through the functions that it exports.
 use crate::call::{Answer, Call, Side};
-use crate::words::{halves, joined};
+use crate::words::{MARK, halves, joined};
 
 // The functions that have a twin for a caller that knows the region to be a graph.
 #[derive(Clone, Copy)]
@@ -13,7 +13,10 @@ struct Tier {
     slice: unsafe extern "C" fn(*mut u64, usize, u64, u64, u64) -> u64,
     concat: unsafe extern "C" fn(*mut u64, usize, u64, u64, u64, u64) -> u64,
     unsigned_range: unsafe extern "C" fn(*mut u64, usize, u64, u64, u64, u64, u64) -> u64,
+    retain: Retain,
 }
+
+type Retain = unsafe extern "C" fn(*mut u64, usize, *const u8, usize, *mut u64, usize) -> u64;
 
 macro_rules! twins {
     ($($name:ident / $twin:ident ($($word:ident),*);)*) => {
@@ -39,6 +42,25 @@ twins! {
         (id, low_low, low_high, high_low, high_high);
 }
 
+macro_rules! retains {
+    ($($name:ident)*) => {
+        unsafe extern "C" {
+            $(
+                fn $name(
+                    g: *mut u64,
+                    len: usize,
+                    keep: *const u8,
+                    keep_len: usize,
+                    mapping: *mut u64,
+                    mapping_len: usize,
+                ) -> u64;
+            )*
+        }
+    };
+}
+
+retains! { scalars_retain scalars_retain_in_graph }
+
 unsafe extern "C" {
     fn scalars_literal(g: *const u64, len: usize, id: u64, out: *mut u64, out_len: usize) -> u64;
     fn scalars_resolve(g: *const u64, len: usize, id: u64) -> u64;
@@ -54,6 +76,7 @@ const ASKING: Tier = Tier {
     slice: scalars_slice,
     concat: scalars_concat,
     unsigned_range: scalars_unsigned_range,
+    retain: scalars_retain,
 };
 
 const IN_GRAPH: Tier = Tier {
@@ -65,10 +88,8 @@ const IN_GRAPH: Tier = Tier {
     slice: scalars_slice_in_graph,
     concat: scalars_concat_in_graph,
     unsigned_range: scalars_unsigned_range_in_graph,
+    retain: scalars_retain_in_graph,
 };
-
-// Stands in lent words that a call must leave alone.
-const MARK: u64 = 0x5ca1_ab1e_5ca1_ab1e;
 
 fn answer_of(number: u64) -> Answer {
     match u64::MAX - number {
@@ -154,6 +175,17 @@ impl Tier {
     }
 
     // SAFETY: as for the leaves.
+    unsafe fn retained(&self, region: &mut [u64], keep: &[u8], mapping: &mut [u64]) -> Answer {
+        let (g, len) = (region.as_mut_ptr(), region.len());
+        let (m, m_len) = (mapping.as_mut_ptr(), mapping.len());
+        let number = unsafe { (self.retain)(g, len, keep.as_ptr(), keep.len(), m, m_len) };
+        match answer_of(number) {
+            Answer::Id(nodes) => Answer::Kept(nodes),
+            other => other,
+        }
+    }
+
+    // SAFETY: as for the leaves.
     unsafe fn call(&self, region: &mut [u64], call: &Call) -> Answer {
         let number =
             unsafe { self.leaf(region, call) }.or_else(|| unsafe { self.builder(region, call) });
@@ -178,6 +210,11 @@ impl Side for Library {
         unsafe { ASKING.call(region, call) }
     }
 
+    fn retain(&mut self, region: &mut [u64], keep: &[u8], mapping: &mut [u64]) -> Option<Answer> {
+        // SAFETY: these functions ask nothing of their caller.
+        Some(unsafe { ASKING.retained(region, keep, mapping) })
+    }
+
     fn takes(&self, _: &Call) -> bool {
         true
     }
@@ -190,6 +227,11 @@ impl Side for InGraph {
     fn call(&mut self, region: &mut [u64], call: &Call) -> Answer {
         // SAFETY: the caller made the region a graph.
         unsafe { IN_GRAPH.call(region, call) }
+    }
+
+    fn retain(&mut self, region: &mut [u64], keep: &[u8], mapping: &mut [u64]) -> Option<Answer> {
+        // SAFETY: the caller made the region a graph.
+        Some(unsafe { IN_GRAPH.retained(region, keep, mapping) })
     }
 
     fn takes(&self, _: &Call) -> bool {

@@ -201,6 +201,7 @@ pub fn answer_line(answer: Answer, words: &[u64]) -> String {
         Answer::Is(true) => "yes".to_string(),
         Answer::Is(false) => "no".to_string(),
         Answer::Spoilt => "spoilt".to_string(),
+        Answer::Kept(nodes) => format!("kept {nodes}"),
     };
     format!("{text} {:032x}\n", sums(words))
 }

@@ -31,6 +31,7 @@ mod questions;
 mod random;
 mod regions;
 mod report;
+mod retains;
 // The build reads more of it.
 #[allow(dead_code)]
 mod sites;
@@ -99,7 +100,7 @@ fn compare(
         compared = compared.and_then(|()| all.round(round));
     }
     if let Err(difference) = compared {
-        println!("DIFFERENCE\n{}", difference.described());
+        println!("DIFFERENCE\n{}", difference);
         return ExitCode::FAILURE;
     }
     report::print(&all);

@@ -2,7 +2,7 @@
 use crate::call::{Answer, Call, Side, binary_of, short, unary_of};
 use crate::meter;
 use crate::native::{Binary, Graph, ScalarType, Unary, opened};
-use crate::words::{encode_from, graph_of, is_range_of};
+use crate::words::{encode, encode_from, graph_of, is_range_of, operands};
 use ScalarType::{Bits, Bool, Integer};
 use std::panic::{AssertUnwindSafe, catch_unwind};
 
@@ -164,6 +164,31 @@ pub fn apply(graph: &mut Graph, call: &Call) -> Answer {
     }
 }
 
+// Question 6: an element for each node in both slices, each 0 or 1, and the operands of a kept node kept.
+fn is_choice(graph: &Graph, keep: &[u8], mapping: &[u64]) -> bool {
+    let count = graph.scalars.len();
+    let is_kept = |id: &usize| keep[*id] == 1;
+    keep.len() == count
+        && mapping.len() == count
+        && keep.iter().all(|element| *element <= 1)
+        && (0..count)
+            .filter(is_kept)
+            .all(|id| operands(&graph.scalars[id].operation).iter().all(is_kept))
+}
+
+// A retain on a graph.
+pub fn retain(graph: &mut Graph, keep: &[u8], mapping: &mut [u64]) -> Answer {
+    if !is_choice(graph, keep, mapping) {
+        return Answer::Refused(6);
+    }
+    let keep: Vec<bool> = keep.iter().map(|element| *element == 1).collect();
+    let ids = graph.retain(&keep);
+    for (word, id) in mapping.iter_mut().zip(ids) {
+        *word = id as u64;
+    }
+    Answer::Kept(graph.scalars.len() as u64)
+}
+
 impl Side for Original {
     // The maps are filled from the region before the call.
     fn call(&mut self, region: &mut [u64], call: &Call) -> Answer {
@@ -177,6 +202,15 @@ impl Side for Original {
         let answer = apply(&mut graph, call);
         encode_from(&graph, count, region);
         answer
+    }
+
+    fn retain(&mut self, region: &mut [u64], keep: &[u8], mapping: &mut [u64]) -> Option<Answer> {
+        let Some(mut graph) = graph_of(region) else {
+            return Some(Answer::Refused(1));
+        };
+        let answer = retain(&mut graph, keep, mapping);
+        encode(&graph, region);
+        Some(answer)
     }
 
     fn takes(&self, _: &Call) -> bool {

@@ -4,6 +4,7 @@ use crate::classes::{DAMAGED, EDGES, FULL, GROWN, LENGTH, OTHER, PASSING, Rounds
 use crate::compare::{Comparison, Counts};
 use crate::meter::{Kind, hits};
 use crate::regions::WORD_KINDS;
+use crate::retains;
 use crate::sites::{Reach, sites};
 use std::collections::BTreeMap;
 
@@ -113,6 +114,23 @@ fn print_kinds(counts: &BTreeMap<&'static str, Counts>) {
     println!();
 }
 
+fn print_retains(retains: &BTreeMap<&'static str, BTreeMap<&'static str, u64>>) {
+    println!("| class | retains | by kind |");
+    println!("|---|---|---|");
+    for (class, name) in CLASSES {
+        let Some(kinds) = retains.get(class) else {
+            continue;
+        };
+        let texts: Vec<String> = kinds
+            .iter()
+            .map(|(kind, count)| format!("{kind} {count}"))
+            .collect();
+        let all: u64 = kinds.values().sum();
+        println!("| {name} | {all} | {} |", texts.join("; "));
+    }
+    println!();
+}
+
 fn print_damages(damages: &[[u64; 2]]) {
     println!("| word changed | regions | no graph then |");
     println!("|---|---|---|");
@@ -162,10 +180,13 @@ pub fn print(rounds: &Rounds) {
     let counts = &rounds.comparison.counts;
     print_classes(counts);
     print_kinds(counts);
+    print_retains(&rounds.comparison.retains);
     print_damages(&rounds.damages);
     print_sites();
     let calls: u64 = counts.values().map(|counts| counts.calls).sum();
-    println!("{calls} calls compared, no difference");
+    let kinds = rounds.comparison.retains.values();
+    let retains: u64 = kinds.flat_map(|kinds| kinds.values()).sum();
+    println!("{calls} calls and {retains} retains compared, no difference");
 }
 
 // The kinds of calls that a class must have met.
@@ -173,6 +194,21 @@ fn missing_kinds(class: &str, counts: &Counts) -> Vec<String> {
     let is_missing = |kind: &&&str| !counts.kinds.contains_key(**kind);
     let kinds = KINDS.iter().filter(is_missing);
     kinds.map(|kind| format!("{class}: {kind}")).collect()
+}
+
+// The kinds of retains that were not met on grown or on other regions. A program has none.
+fn missing_retains(comparison: &Comparison) -> Vec<String> {
+    let is_met = |class, kind: &str| {
+        let kinds = comparison.retains.get(class);
+        kinds.is_some_and(|kinds| kinds.contains_key(kind))
+    };
+    let mut missing = vec![];
+    for class in [GROWN, OTHER] {
+        let kinds = retains::KINDS.iter().filter(|kind| !is_met(class, kind));
+        missing.extend(kinds.map(|kind| format!("{class}: {kind}")));
+    }
+    missing.retain(|_| !comparison.retains.is_empty());
+    missing
 }
 
 // What was never met, of all that a whole run must have.
@@ -188,6 +224,7 @@ pub fn missing(comparison: &Comparison) -> Vec<String> {
         }
         missing.extend(missing_kinds(class, counts));
     }
+    missing.extend(missing_retains(comparison));
     missing.extend(wrong_sites());
     missing
 }

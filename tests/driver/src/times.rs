@@ -216,13 +216,58 @@ fn print_builders(tiers: &mut Tiers) {
     }
 }
 
+// A retain on copies of a graph of leaves and sums of two, of which every other sum is dropped.
+fn retain_times(tiers: &mut Tiers, nodes: usize) -> [f64; 3] {
+    let leaves = (0..nodes / 2).map(Work::Leaf);
+    let before: Vec<Work> = leaves.chain((0..nodes / 2 - 1).map(Work::Binary)).collect();
+    let (graph, region) = after(&before);
+    let count = graph.scalars.len();
+    let keep: Vec<u8> = (0..count)
+        .map(|id| (id < nodes / 2 || id % 2 == 0).into())
+        .collect();
+    let kept: Vec<bool> = keep.iter().map(|element| *element == 1).collect();
+    let original = smallest(|| {
+        let mut graphs = vec![graph.clone(); COPIES];
+        timed(COPIES, || {
+            for graph in &mut graphs {
+                black_box(graph.retain(black_box(&kept)));
+            }
+        })
+    });
+    let [twin, asking] = [&mut tiers.twin, &mut tiers.asking].map(|side| {
+        smallest(|| {
+            let mut regions = vec![region.clone(); COPIES];
+            let mut mapping = vec![0; count];
+            timed(COPIES, || {
+                for region in &mut regions {
+                    black_box(side.retain(region, black_box(&keep), &mut mapping));
+                }
+            })
+        })
+    });
+    [original, twin, asking]
+}
+
+fn print_retains(tiers: &mut Tiers) {
+    println!("| retain, nodes | original | in graph | asking |");
+    println!("|---|---|---|---|");
+    for nodes in BUILDER_NODES {
+        let [original, twin, asking] = retain_times(tiers, nodes);
+        println!("| {nodes} | {original:.0} | {twin:.0} | {asking:.0} |");
+    }
+}
+
 pub fn print(asking: &mut dyn Side, twin: &mut dyn Side) {
     let mut tiers = Tiers { asking, twin };
     println!(
         "Nanoseconds for a call. `asking` asks question 1 first, which alone takes `question 1`;"
     );
-    println!("`in graph` is its twin that does not ask. First `effect`, then each builder.\n");
+    println!(
+        "`in graph` is its twin that does not ask. First `effect`, then each builder, then retain.\n"
+    );
     print_leaves(&mut tiers);
     println!();
     print_builders(&mut tiers);
+    println!();
+    print_retains(&mut tiers);
 }

@@ -3,6 +3,8 @@ use crate::native::opened;
 use crate::native::{Graph, Operation, Range, Scalar, ScalarType, Unary};
 use crate::operators::{self, BINARY_CODE, UNARY_CODE};
 
+// Stands in lent words before a call, where it must leave them alone.
+pub const MARK: u64 = 0x5ca1_ab1e_5ca1_ab1e;
 pub const REGION: usize = 6145;
 pub const WORDS: usize = 12;
 pub const LIMIT: usize = 512;
@@ -196,7 +198,7 @@ pub fn is_range_of(range: Range, ty: ScalarType) -> bool {
         }
 }
 
-fn operands(operation: &Operation) -> Vec<usize> {
+pub fn operands(operation: &Operation) -> Vec<usize> {
     match *operation {
         Operation::Constant(_) | Operation::Input(_) | Operation::Effect(_) => vec![],
         Operation::Refine(id) | Operation::Unary(_, id) => vec![id],

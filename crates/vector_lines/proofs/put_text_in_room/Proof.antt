@@ -1,6 +1,6 @@
 -- `vector_lines::put_text_in_room` meets its contract. The invariant: `i` is at most the length of `text`, and `out` is what it was with the first
 -- i bytes of `text` copied in from `at`. The measure is what is left of `text`. Assumes nothing.
-use Prim.Native.Nat.{_+_, _-_, _≤_}
+use Prim.Native.Nat.{_-_, _≤_}
 use mathlib.Core.Path.{_≡_, refl, _∙_}
 use borrow.Author.Needs.{needs}
 use native.Mathlib.Numerals.{add-one}

@@ -29,6 +29,9 @@ enum-told-5 c = search needs
 enum-told-6 : tie.Need-enum-told-6
 enum-told-6 c = search needs
 
+xor-bit-requires : tie.Need-xor-bit-requires
+xor-bit-requires c κs = search needs
+
 enum-told-7 : tie.Need-enum-told-7
 enum-told-7 c = search needs
 
@@ -129,49 +132,46 @@ returns-7 : tie.Need-returns-7
 returns-7 c = simp (c .before .enum-told5 .given .1, c .if2 .left)
 
 returns-8 : tie.Need-returns-8
-returns-8 c = simp (c .before .enum-told6 .given .1, c .if3 .taken)
+returns-8 c = simp (c .before .enum-told6 .given .1, ← c .xor-bit .ensures)
 
 returns-9 : tie.Need-returns-9
-returns-9 c = simp (c .before .enum-told6 .given .1, c .if3 .left)
+returns-9 c = simp (c .before .enum-told7 .given .1, ← c .own4 .ensures)
 
 returns-10 : tie.Need-returns-10
-returns-10 c = simp (c .before .enum-told7 .given .1, ← c .own4 .ensures)
+returns-10 c = simp (c .before .enum-told8 .given .1, ← c .own5 .ensures)
 
 returns-11 : tie.Need-returns-11
-returns-11 c = simp (c .before .enum-told8 .given .1, ← c .own5 .ensures)
+returns-11 c = simp (c .before .enum-told9 .given .1, ← c .own6 .ensures)
 
 returns-12 : tie.Need-returns-12
-returns-12 c = simp (c .before .enum-told9 .given .1, ← c .own6 .ensures)
+returns-12 c = simp (c .before .enum-told10 .given .1, ← c .own7 .ensures)
 
 returns-13 : tie.Need-returns-13
-returns-13 c = simp (c .before .enum-told10 .given .1, ← c .own7 .ensures)
+returns-13 c = simp (c .before .enum-told11 .given .1, ← c .own8 .ensures)
 
 returns-14 : tie.Need-returns-14
-returns-14 c = simp (c .before .enum-told11 .given .1, ← c .own8 .ensures)
+returns-14 c = simp (c .before .enum-told12 .given .1, ← c .own9 .ensures)
 
 returns-15 : tie.Need-returns-15
-returns-15 c = simp (c .before .enum-told12 .given .1, ← c .own9 .ensures)
+returns-15 c = simp (c .before .enum-told13 .given .1, ← c .own10 .ensures)
 
 returns-16 : tie.Need-returns-16
-returns-16 c = simp (c .before .enum-told13 .given .1, ← c .own10 .ensures)
+returns-16 c = simp (c .before .enum-told14 .given .1, ← c .own11 .ensures)
 
 returns-17 : tie.Need-returns-17
-returns-17 c = simp (c .before .enum-told14 .given .1, ← c .own11 .ensures)
+returns-17 c = simp (c .before .enum-told15 .given .1, ← c .own12 .ensures)
 
 returns-18 : tie.Need-returns-18
-returns-18 c = simp (c .before .enum-told15 .given .1, ← c .own12 .ensures)
+returns-18 c = simp (c .before .enum-told16 .given .1, ← c .own13 .ensures)
 
 returns-19 : tie.Need-returns-19
-returns-19 c = simp (c .before .enum-told16 .given .1, ← c .own13 .ensures)
+returns-19 c = simp (c .before .enum-told17 .given .1, ← c .own14 .ensures)
 
 returns-20 : tie.Need-returns-20
-returns-20 c = simp (c .before .enum-told17 .given .1, ← c .own14 .ensures)
+returns-20 c = simp (c .before .enum-told18 .given .1, ← c .own15 .ensures)
 
 returns-21 : tie.Need-returns-21
-returns-21 c = simp (c .before .enum-told18 .given .1, ← c .own15 .ensures)
-
-returns-22 : tie.Need-returns-22
-returns-22 c = simp (c .before .enum-told19 .given .1, ← c .own16 .ensures)
+returns-21 c = simp (c .before .enum-told19 .given .1, ← c .own16 .ensures)
 
 pub masked-bit-spec : {M : Type 1} → statement M
 masked-bit-spec =
@@ -186,6 +186,7 @@ masked-bit-spec =
     enum-told-4
     enum-told-5
     enum-told-6
+    xor-bit-requires
     enum-told-7
     own-requires-4
     enum-told-8
@@ -232,5 +233,4 @@ masked-bit-spec =
     returns-18
     returns-19
     returns-20
-    returns-21
-    returns-22)
+    returns-21)

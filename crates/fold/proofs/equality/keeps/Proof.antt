@@ -1,7 +1,7 @@
 use mathlib.Core.Logic.{⊎-elim}
 use borrow.Author.Needs.{needs}
 use Rattle.word.specs.Value.{val}
-use Rattle.fold.proofs.Laws.{zero-test}
+use Rattle.graph.proofs.Tests.{zero-test}
 use Rattle.fold.proofs.equality.keeps.Statement.{statement}
 use Rattle.fold.proofs.equality.keeps.Tie as tie
 

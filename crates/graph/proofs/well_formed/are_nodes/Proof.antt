@@ -5,8 +5,8 @@ use Prim.Native.Nat.{_-_, _≤_}
 use native.Mathlib.Omega.{arith}
 use borrow.Author.Tests.{not-true, not-false}
 use borrow.Author.Needs.{needs}
-use Rattle.graph.specs.WellFormed.{areNodes}
-use Rattle.graph.proofs.Tests.{nodes-on, nodes-off}
+use Rattle.graph.specs.WellFormed.{isNode, areNodes}
+use Rattle.graph.proofs.Tests.{pass-on, pass-off}
 use Rattle.graph.proofs.well_formed.are_nodes.Statement.{statement}
 use Rattle.graph.proofs.well_formed.are_nodes.Tie as tie
 
@@ -26,7 +26,7 @@ returns : tie.Need-returns Inv-loop μ-loop
 returns c =
     let a = c .before .before .before .before .before .args in
     let l = c .before .before .before .loop in
-    sym (nodes-off (a .g .now) (a .nodes) (l .n) (sym (c .before .is-node .ensures) ∙ not-true _ (c .if1 .taken)) (a .nodes) (c .before .before .loop-test .taken))
+    sym (pass-off (isNode (a .g .now) (a .nodes)) (l .n) (sym (c .before .is-node .ensures) ∙ not-true _ (c .if1 .taken)) (a .nodes) (c .before .before .loop-test .taken))
 
 add-n : tie.Need-add-n Inv-loop μ-loop
 add-n c = search needs
@@ -38,7 +38,7 @@ loop-again : tie.Need-loop-again Inv-loop μ-loop
 loop-again c =
     let a = c .before .before .before .before .before .args in
     let l = c .before .before .before .loop in
-    (search needs, nodes-on (a .g .now) (a .nodes) (l .n) (l .inv .1) (sym (c .before .is-node .ensures) ∙ not-false _ (c .if1 .left)))
+    (search needs, pass-on (isNode (a .g .now) (a .nodes)) (l .n) (l .inv .1) (sym (c .before .is-node .ensures) ∙ not-false _ (c .if1 .left)))
 
 returns-2 : tie.Need-returns-2 Inv-loop μ-loop
 returns-2 c =

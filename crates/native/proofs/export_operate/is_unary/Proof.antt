@@ -1,5 +1,4 @@
 use borrow.Author.Tests.{le-leb, lt-leb}
-use borrow.Author.Needs.{needs}
 use Rattle.native.proofs.export_operate.is_unary.Statement.{statement}
 use Rattle.native.proofs.export_operate.is_unary.Tie as tie
 

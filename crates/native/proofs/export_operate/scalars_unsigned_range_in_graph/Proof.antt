@@ -1,5 +1,4 @@
 use Rattle.word.specs.Value.{val}
-use denote.Ref.{now}
 use mathlib.Core.Path.{ap, _∙_}
 use Rattle.native.specs.Export.{exported, numbered, unsignedRangeExport}
 use borrow.Author.Needs.{needs}

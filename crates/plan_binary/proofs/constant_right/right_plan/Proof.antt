@@ -1,6 +1,6 @@
 use borrow.Author.Needs.{needs}
 use Rattle.word.specs.Value.{val}
-use Rattle.fold.proofs.Laws.{zero-test}
+use Rattle.graph.proofs.Tests.{zero-test}
 use Rattle.plan_binary.proofs.constant_right.right_plan.Statement.{statement}
 use Rattle.plan_binary.proofs.constant_right.right_plan.Tie as tie
 

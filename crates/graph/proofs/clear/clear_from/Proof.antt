@@ -3,9 +3,9 @@ use mathlib.Core.Path.{refl, _∙_}
 use borrow.Author.Needs.{needs}
 use native.Mathlib.Omega.{arith}
 use lib.ListN.{length, length-set}
-use Rattle.native.proofs.Rollback.{Wiping, wiping-more, wiped}
-use Rattle.native.proofs.operate.roll_back.Statement.{statement}
-use Rattle.native.proofs.operate.roll_back.Tie as tie
+use Rattle.graph.proofs.Wiping.{Wiping, wiping-more, wiped}
+use Rattle.graph.proofs.clear.clear_from.Statement.{statement}
+use Rattle.graph.proofs.clear.clear_from.Tie as tie
 
 abbrev Inv-loop : tie.InvT-loop
 Inv-loop g₀ nodes at₀ g at = Wiping nodes g₀ g at
@@ -46,8 +46,8 @@ same-length c = c .before .loop .inv .size ∙ simp length-set
 returns : tie.Need-returns Inv-loop μ-loop
 returns c = wiped _ _ _ _ (omega arith) (c .before .loop .inv) (c .loop-test .left)
 
-pub roll-back-spec : {M : Type 1} → statement M
-roll-back-spec =
+pub clear-from-spec : {M : Type 1} → statement M
+clear-from-spec =
     tie.close
     (tie.spec
     Inv-loop

@@ -1,0 +1,46 @@
+// The call of retain. `retain_in_graph` is for a caller that knows the region to be a graph.
+ghost use mathlib.Core.Bool.{true};
+ghost use mathlib.Core.Path.{_≡_};
+ghost use Rattle.graph.specs.WellFormed.{isGraph};
+ghost use Rattle.native.specs.Retain.{outcomeOf, numbered, retention, retainInGraph, retainCall};
+use crate::Retained;
+use evaluate::Refusal;
+use graph::well_formed::is_graph;
+use retain::choice::is_choice;
+
+pub fn retain_in_graph(g: &mut [u64], keep: &[u8], mapping: &mut [u64]) -> Retained
+    requires { ⌜ isGraph (now g) ≡ true ⌝ }
+    ensures { λ r. ⌜ retention (outcomeOf r) (now (g .exit)) (now (mapping .exit)) ≡ retainInGraph (now (g .entry)) (now (keep .entry)) (now (mapping .entry)) ⌝ }
+{
+    if is_choice(g, keep, mapping) {
+        Retained::Kept(retain::retain(g, keep, mapping))
+    } else {
+        Retained::Refused(Refusal::Keep)
+    }
+}
+
+pub fn retain(g: &mut [u64], keep: &[u8], mapping: &mut [u64]) -> Retained
+    ensures { λ r. ⌜ retention (outcomeOf r) (now (g .exit)) (now (mapping .exit)) ≡ retainCall (now (g .entry)) (now (keep .entry)) (now (mapping .entry)) ⌝ }
+{
+    if is_graph(g) {
+        retain_in_graph(g, keep, mapping)
+    } else {
+        Retained::Refused(Refusal::Graph)
+    }
+}
+
+// The calls for C and Rust: the nodes left, or a refusal counted down from the largest number.
+#[no_mangle]
+pub extern "C" fn scalars_retain_in_graph(g: &mut [u64], keep: &[u8], mapping: &mut [u64]) -> u64
+    requires { ⌜ isGraph (now g) ≡ true ⌝ }
+    ensures { λ r. ⌜ numbered r (now (g .exit)) (now (mapping .exit)) (retainInGraph (now (g .entry)) (now (keep .entry)) (now (mapping .entry))) ⌝ }
+{
+    retain_in_graph(g, keep, mapping).number()
+}
+
+#[no_mangle]
+pub extern "C" fn scalars_retain(g: &mut [u64], keep: &[u8], mapping: &mut [u64]) -> u64
+    ensures { λ r. ⌜ numbered r (now (g .exit)) (now (mapping .exit)) (retainCall (now (g .entry)) (now (keep .entry)) (now (mapping .entry))) ⌝ }
+{
+    retain(g, keep, mapping).number()
+}

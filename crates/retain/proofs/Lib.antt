@@ -1,0 +1,4 @@
+pub mod Moving
+pub mod Operands
+pub mod Laws
+pub mod Grown

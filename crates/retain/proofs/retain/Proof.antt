@@ -1,0 +1,98 @@
+-- The loop's invariant: the first nodes are done. The measure is what is left of the count.
+use mathlib.Core.Path.{sym, _∙_}
+use Prim.Native.Nat.{_-_, _<_}
+use native.Mathlib.Omega.{arith}
+use Rattle.graph.specs.Layout.{countOf}
+use Rattle.graph.proofs.Grown.{graph-facts}
+use Rattle.retain.proofs.Operands.{first-below, second-below, choice-facts}
+use Rattle.retain.proofs.Moving.{kept-le, Moving, moving-begins, moving-next, moving-ends}
+use Rattle.retain.proofs.retain.Statement.{statement}
+use Rattle.retain.proofs.retain.Tie as tie
+
+abbrev Inv-loop : tie.InvT-loop
+Inv-loop g₀ keep mapping₀ nodes next₀ node₀ g mapping next node = Moving g₀ keep g mapping next node
+
+abbrev μ-loop : tie.MeasureT-loop
+μ-loop g₀ keep mapping₀ nodes next₀ node₀ g mapping next node = nodes - node
+
+count-requires : tie.Need-count-requires Inv-loop μ-loop
+count-requires c κs =
+    graph-facts (c .before .before .before .before .args .g .now) (c .before .before .before .before .pre .0) .length
+
+loop-holds : tie.Need-loop-holds Inv-loop μ-loop
+loop-holds c =
+    let a = c .before .before .before .before .before .args in
+    moving-begins (a .g .now) (a .keep .now) (a .mapping .now) (graph-facts (a .g .now) (c .before .before .before .before .before .pre .0) .length) (choice-facts (a .g .now) (a .keep .now) (a .mapping .now) (c .before .before .before .before .before .pre .1) .ids)
+
+place-requires : tie.Need-place-requires Inv-loop μ-loop
+place-requires c κs =
+    let a = c .before .before .before .before .before .before .before .before .before .args in
+    let l = c .before .before .before .loop in
+    let f = graph-facts (a .g .now) (c .before .before .before .before .before .before .before .before .before .pre .0) in
+    let k = choice-facts (a .g .now) (a .keep .now) (a .mapping .now) (c .before .before .before .before .before .before .before .before .before .pre .1) in
+    let more : l .node < countOf (a .g .now) = omega arith in
+    (l .inv .size, omega (arith, more, l .inv .kept, kept-le (a .keep .now) (l .node), f .count), omega (arith, k .keeps), omega (arith, l .inv .ids))
+
+add-node : tie.Need-add-node Inv-loop μ-loop
+add-node c =
+    let a = c .before .before .before .before .before .before .before .before .before .before .before .before .before .before .args in
+    let l = c .before .before .before .before .before .before .before .before .loop in
+    let f = graph-facts (a .g .now) (c .before .before .before .before .before .before .before .before .before .before .before .before .before .before .pre .0) in
+    let k = choice-facts (a .g .now) (a .keep .now) (a .mapping .now) (c .before .before .before .before .before .before .before .before .before .before .before .before .before .before .pre .1) in
+    omega (arith, f .count)
+
+loop-less : tie.Need-loop-less Inv-loop μ-loop
+loop-less c =
+    omega arith
+
+loop-again : tie.Need-loop-again Inv-loop μ-loop
+loop-again c =
+    let a = c .before .before .before .before .before .before .before .before .before .before .before .before .before .before .args in
+    let l = c .before .before .before .before .before .before .before .before .loop in
+    let f = graph-facts (a .g .now) (c .before .before .before .before .before .before .before .before .before .before .before .before .before .before .pre .0) in
+    let k = choice-facts (a .g .now) (a .keep .now) (a .mapping .now) (c .before .before .before .before .before .before .before .before .before .before .before .before .before .before .pre .1) in
+    let e = c .before .before .before .before .place .ensures in
+    let more : l .node < countOf (a .g .now) = omega arith in
+    moving-next (a .g .now) (a .keep .now) (l .g) (l .mapping) (l .next) (l .node) (l .inv) more (f .count) (first-below f (l .node) more)
+    (second-below f (l .node) more) _ _ _ (e .1) (e .2) (e .0)
+
+clear-from-requires : tie.Need-clear-from-requires Inv-loop μ-loop
+clear-from-requires c κs =
+    let a = c .before .before .before .before .before .before .before .before .args in
+    let l = c .before .before .loop in
+    let f = graph-facts (a .g .now) (c .before .before .before .before .before .before .before .before .pre .0) in
+    let k = choice-facts (a .g .now) (a .keep .now) (a .mapping .now) (c .before .before .before .before .before .before .before .before .pre .1) in
+    (l .inv .size, omega (arith, l .inv .kept, l .inv .upto, kept-le (a .keep .now) (l .node), f .count))
+
+same-length : tie.Need-same-length Inv-loop μ-loop
+same-length c =
+    c .before .g2 .given ∙ c .before .before .before .before .before .loop .inv .size ∙ sym (graph-facts (c .before .before .before .before .before .before .before .before .before .before .before .args .g .now) (c .before .before .before .before .before .before .before .before .before .before .before .pre .0) .length)
+
+same-length-2 : tie.Need-same-length-2 Inv-loop μ-loop
+same-length-2 c =
+    let a = c .before .before .before .before .before .before .before .before .before .before .before .args in
+    c .before .before .before .before .before .loop .inv .ids ∙ sym (choice-facts (a .g .now) (a .keep .now) (a .mapping .now) (c .before .before .before .before .before .before .before .before .before .before .before .pre .1) .ids)
+
+returns : tie.Need-returns Inv-loop μ-loop
+returns c =
+    let a = c .before .before .before .before .before .before .before .before .before .before .before .args in
+    let l = c .before .before .before .before .before .loop in
+    let e = moving-ends (a .g .now) (a .keep .now) (l .g) (l .mapping) (l .next) (l .node) (l .inv) (omega arith) in
+    (e .0, c .before .before .clear-from .ensures ∙ e .1, e .2)
+
+pub retain-spec : {M : Type 1} → statement M
+retain-spec =
+    tie.close
+    (tie.spec
+    Inv-loop
+    μ-loop
+    count-requires
+    loop-holds
+    place-requires
+    add-node
+    loop-less
+    loop-again
+    clear-from-requires
+    same-length
+    same-length-2
+    returns)
