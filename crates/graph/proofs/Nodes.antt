@@ -13,7 +13,7 @@ use lib.Seq.{paste, getD-take, getD-drop, getD-append-add, getD-set-same, getD-s
 use Rattle.word.proofs.Integer.{lt-or-ge}
 use Rattle.range.specs.Interval.{Interval}
 use Rattle.range.specs.declared.ScalarType.{ScalarType}
-use Rattle.graph.specs.Layout.{WORDS, FIRST, LIMIT, REGION, nodeStart, wordAt, countOf}
+use Rattle.graph.specs.Layout.{WORDS, KEY, FIRST, LIMIT, REGION, nodeStart, wordAt, countOf}
 use Rattle.graph.specs.Node.{Op, wordsOf, typeOf, typeAt, rangeOf, rangeAt, operationOf, operationAt, aliasAt, rangeFlag, rangeLow, rangeHigh, pair, nodeAt}
 use Rattle.graph.specs.Insert as insert
 use Rattle.graph.specs.Insert.{id, made, appended, follow}
@@ -98,18 +98,35 @@ reading g n f e = record {
   alias = e 11 (lit< tt);
 }
 
--- a node with the words of a type, a range and an operation holds them
+-- a node with the key of a type, a range and an operation has them
+module _ (g : List ℕ) (n : ℕ) (t : ScalarType) (r : Option Interval) (o : Op) (s : Stored t r o)
+    (e : (k : ℕ) → k < KEY → wordAt g n k ≡ getD (wordsOf t r o) k 0) where
+  pub type-read : typeAt g n ≡ t
+  unfolding wordsOf
+  type-read = (λ i. typeOf (e 0 (lit< tt) i) (e 1 (lit< tt) i)) ∙ type-back t (s .width)
+
+  pub range-read : rangeAt g n ≡ r
+  unfolding wordsOf
+  range-read =
+      (λ i. rangeOf (e 2 (lit< tt) i) (pair (e 3 (lit< tt) i) (e 4 (lit< tt) i)) (pair (e 5 (lit< tt) i) (e 6 (lit< tt) i)))
+      ∙ (λ i. rangeOf (rangeFlag r) (pair-back (rangeLow r) i) (pair-back (rangeHigh r) i)) ∙ range-back r (s .low) (s .high)
+
+  pub operation-read : operationAt g n ≡ o
+  unfolding wordsOf
+  operation-read =
+      (λ i. operationOf (e 7 (lit< tt) i) (e 8 (lit< tt) i) (e 9 (lit< tt) i) (e 10 (lit< tt) i)) ∙ operation-back o (s .offset) (s .parameter)
+
+-- and with its words it has no alias
 pub words-back : (g : List ℕ) (n : ℕ) (t : ScalarType) (r : Option Interval) (o : Op) → Stored t r o
     → ((k : ℕ) → k < WORDS → wordAt g n k ≡ getD (wordsOf t r o) k 0) → Holds g n t r o 0
 unfolding wordsOf
 words-back g n t r o s e =
-    let h = reading g n (λ k. getD (wordsOf t r o) k 0) e in record {
-      type = h .type ∙ type-back t (s .width);
-      range =
-          h .range ∙ (λ i. rangeOf (rangeFlag r) (pair-back (rangeLow r) i) (pair-back (rangeHigh r) i))
-          ∙ range-back r (s .low) (s .high);
-      operation = h .operation ∙ operation-back o (s .offset) (s .parameter);
-      alias = h .alias;
+    let key : (k : ℕ) → k < KEY → wordAt g n k ≡ getD (wordsOf t r o) k 0 = λ k h. e k (omega arith) in
+    record {
+      type = type-read g n t r o s key;
+      range = range-read g n t r o s key;
+      operation = operation-read g n t r o s key;
+      alias = e 11 (lit< tt);
     }
 
 -- there are as many words as a node has

@@ -1,0 +1,4 @@
+pub mod Bit
+pub mod Logic
+pub mod Slices
+pub mod Sums

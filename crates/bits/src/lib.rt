@@ -1,0 +1,1 @@
+// Laws on the bits of numbers and on numbers modulo 2^w, in `proofs/`. There is no code.

@@ -1,0 +1,351 @@
+-- What holds of a grown graph where the values meet the conditions, and that an insertion keeps it. Assumes nothing.
+use mathlib.Core.Path.{_≡_, refl, sym, ap, _∙_, subst}
+use mathlib.Core.Bool.{Bool, true, false}
+use mathlib.Core.List.{List}
+use mathlib.Core.Logic.{_⊎_, inl, inr, ⊎-elim}
+use mathlib.Core.Option.{Option, none, some}
+use Prim.Native.Nat.{ℕ, zero, suc, min, _+_, _-_, _^_, _≤_, _<_}
+use native.Mathlib.Decide.{decLt}
+use native.Mathlib.Nat.{le-refl}
+use native.Mathlib.Omega.{arith}
+use borrow.Author.Tests.{ltb-true, eq-eqb}
+use lib.Dec.{ltb, eqb}
+use lib.ListN.{length}
+use lib.Signed.{mag}
+use Rattle.range.specs.Interval.{Interval, _∈_, both}
+use Rattle.range.specs.declared.ScalarType.{ScalarType}
+use Rattle.range.specs.declared.ScalarType.the-variants as ty
+use Rattle.evaluate.specs.declared.Binary.{Binary}
+use Rattle.evaluate.specs.declared.Binary.the-variants as bi
+use Rattle.graph.specs.Layout.{REGION, LIMIT, countOf}
+use Rattle.graph.specs.Node as node
+use Rattle.graph.specs.Node.{Op, Parts, nodeAt, typeAt, rangeAt, operationAt, aliasAt, wordsOf}
+use Rattle.graph.specs.Insert as insert
+use Rattle.graph.specs.Insert.{Reply, Made, start, follow, resolve, sameKey, interned, appended, foundOr, inserted}
+use Rattle.graph.proofs.Codes.{Stored}
+use Rattle.graph.proofs.Interned.{same-key, lowest-some}
+use Rattle.graph.proofs.Nodes.{Holds, type-read, operation-read, length-words, appended-made, appended-full, appended-length, appended-count, appended-other, appended-new, node-other}
+use Rattle.fold.specs.Shape.{sameType, narrowType}
+use Rattle.native.specs.Typing.{isNumber, unaryTyped, binaryTyped, concatTyped}
+use Rattle.meaning.specs.Value.{Env, size, integerOf, operationMeans, value}
+use Rattle.meaning.proofs.Values.{value-same, value-step, means-same}
+
+-- ---- types of stored operations
+
+-- the left operand of a stored shift left: of the result's type, or of fewer bits
+abbrev pub shiftable : ScalarType → ScalarType → Bool
+shiftable a ty.Bool = false
+shiftable a (ty.Bits w) = narrowType a w
+shiftable a ty.Integer = sameType a ty.Integer
+
+-- the typing table of stored binary operations
+abbrev pub storedTyped : Binary → ScalarType → ScalarType → ScalarType → Bool
+storedTyped bi.Add a b t = binaryTyped bi.Add a b t
+storedTyped bi.Sub a b t = binaryTyped bi.Sub a b t
+storedTyped bi.Mul a b t = binaryTyped bi.Mul a b t
+storedTyped bi.And a b t = binaryTyped bi.And a b t
+storedTyped bi.Or a b t = binaryTyped bi.Or a b t
+storedTyped bi.Xor a b t = binaryTyped bi.Xor a b t
+storedTyped bi.ShiftLeft a b t = both (shiftable a t) (isNumber b)
+storedTyped bi.ShiftRight a b t = binaryTyped bi.ShiftRight a b t
+storedTyped bi.ArithmeticShiftRight a b t = binaryTyped bi.ArithmeticShiftRight a b t
+storedTyped bi.Equal a b t = binaryTyped bi.Equal a b t
+storedTyped bi.NotEqual a b t = binaryTyped bi.NotEqual a b t
+storedTyped bi.LessSigned a b t = binaryTyped bi.LessSigned a b t
+storedTyped bi.LessUnsigned a b t = binaryTyped bi.LessUnsigned a b t
+storedTyped bi.LessEqualSigned a b t = binaryTyped bi.LessEqualSigned a b t
+storedTyped bi.LessEqualUnsigned a b t = binaryTyped bi.LessEqualUnsigned a b t
+storedTyped bi.DivideSigned a b t = binaryTyped bi.DivideSigned a b t
+storedTyped bi.RemainderSigned a b t = binaryTyped bi.RemainderSigned a b t
+storedTyped bi.DivideUnsigned a b t = binaryTyped bi.DivideUnsigned a b t
+storedTyped bi.RemainderUnsigned a b t = binaryTyped bi.RemainderUnsigned a b t
+
+-- an operation of a node of type t: a constant is of its type, a Slice has its type's width, the others by the table
+abbrev pub Typed : List ℕ → ScalarType → Op → Type 0
+Typed g t (node.constant c) = c < size t
+Typed g t (node.input i) = Unit {0}
+Typed g t (node.refine i) = Unit {0}
+Typed g t (node.effect i) = Unit {0}
+Typed g t (node.slice i o w) = t ≡ ty.Bits w
+Typed g t (node.concat i j v) = (w : ℕ) × (t ≡ ty.Bits w) × (concatTyped (typeAt g i) (typeAt g j) v w ≡ true)
+Typed g t (node.unary u i) = unaryTyped u (typeAt g i) t ≡ true
+Typed g t (node.binary b i j) = storedTyped b (typeAt g i) (typeAt g j) t ≡ true
+
+-- ---- ranges
+
+-- both ends are integers of 128 bits
+pub record Ends (a : Interval) : Type 0 where
+  pub low : mag (a .low) < 2 ^ 127
+  pub high : mag (a .high) < 2 ^ 127
+
+-- a value of type t lies in the range, if there is one
+abbrev pub Within : ScalarType → ℕ → Option Interval → Type 0
+Within t v r = (a : Interval) → r ≡ some a → (integerOf t v) ∈ a
+
+-- ---- the invariant
+
+-- where an alias leads: to a node of the same type and value
+pub record Leads (ρ : Env) (g : List ℕ) (n m : ℕ) : Type 0 where
+  pub here : m < countOf g
+  pub type : typeAt g m ≡ typeAt g n
+  pub means : value ρ g m ≡ value ρ g n
+
+-- the source of a Refine has a value of the Refine's type, if any
+abbrev pub Refined : Env → List ℕ → ScalarType → Op → Type 0
+Refined ρ g t (node.constant c) = Unit {0}
+Refined ρ g t (node.input i) = Unit {0}
+Refined ρ g t (node.refine i) = (v : ℕ) → value ρ g i ≡ some v → v < size t
+Refined ρ g t (node.effect i) = Unit {0}
+Refined ρ g t (node.slice i o w) = Unit {0}
+Refined ρ g t (node.concat i j v) = Unit {0}
+Refined ρ g t (node.unary u i) = Unit {0}
+Refined ρ g t (node.binary b i j) = Unit {0}
+
+pub record Inv (ρ : Env) (g : List ℕ) : Type 0 where
+  pub size : length g ≡ REGION
+  pub few : countOf g ≤ LIMIT
+  pub below : (n : ℕ) → n < countOf g → start (operationAt g n) ≤ n
+  pub typed : (n : ℕ) → n < countOf g → Typed g (typeAt g n) (operationAt g n)
+  pub refined : (n : ℕ) → n < countOf g → Refined ρ g (typeAt g n) (operationAt g n)
+  pub ends : (n : ℕ) → n < countOf g → (a : Interval) → rangeAt g n ≡ some a → Ends a
+  pub ranged : (n : ℕ) → n < countOf g → (v : ℕ) → value ρ g n ≡ some v → Within (typeAt g n) v (rangeAt g n)
+  pub alias : (n : ℕ) → n < countOf g → (aliasAt g n ≡ 0) ⊎ Leads ρ g n (aliasAt g n - 1)
+
+pub inv-step : {ρ : Env} {g : List ℕ} → Inv ρ g → (n : ℕ) → n < countOf g → value ρ g n ≡ operationMeans ρ (typeAt g n) (operationAt g n) (value ρ g)
+inv-step {ρ} {g} i n l = value-step ρ g n (i .below n l)
+
+-- ---- one graph goes on from another: its nodes are there, with their types, ranges and operations
+
+pub record Extends (g h : List ℕ) : Type 0 where
+  pub more : countOf g ≤ countOf h
+  pub same : (i : ℕ) → i < countOf g → nodeAt h i ≡ nodeAt g i
+
+pub ext-refl : (g : List ℕ) → Extends g g
+ext-refl g = record { more = le-refl (countOf g); same = λ i l. refl }
+
+pub ext-trans : {g h k : List ℕ} → Extends g h → Extends h k → Extends g k
+ext-trans a b = record {
+  more = let p = a .more in let q = b .more in omega arith;
+  same = λ i l. b .same i (let p = a .more in omega arith) ∙ a .same i l;
+}
+
+module _ {g h : List ℕ} (e : Extends g h) (i : ℕ) (l : i < countOf g) where
+  pub ext-here : i < countOf h
+  ext-here = let m = e .more in omega arith
+
+  pub ext-type : typeAt h i ≡ typeAt g i
+  ext-type = ap (λ (p : Parts). p .type) (e .same i l)
+
+  pub ext-range : rangeAt h i ≡ rangeAt g i
+  ext-range = ap (λ (p : Parts). p .range) (e .same i l)
+
+  pub ext-operation : operationAt h i ≡ operationAt g i
+  ext-operation = ap (λ (p : Parts). p .operation) (e .same i l)
+
+pub ext-value : (ρ : Env) {g h : List ℕ} → Extends g h → (i : ℕ) → i < countOf g → value ρ h i ≡ value ρ g i
+ext-value ρ {g} {h} e i l = value-same ρ g h i (λ j q. ext-type e j (omega arith)) (λ j q. ext-operation e j (omega arith))
+
+pub typed-ext : {g h : List ℕ} → Extends g h → (t : ScalarType) (o : Op) → start o ≤ countOf g → Typed g t o → Typed h t o
+typed-ext e t (node.constant c) b w = w
+typed-ext e t (node.input i) b w = tt
+typed-ext e t (node.refine i) b w = tt
+typed-ext e t (node.effect i) b w = tt
+typed-ext e t (node.slice i o v) b w = w
+typed-ext e t (node.concat i j v) b w =
+    (w .0, w .1, (λ k. concatTyped (ext-type e i (omega arith) k) (ext-type e j (omega arith) k) v (w .0)) ∙ w .2)
+typed-ext e t (node.unary u i) b w = ap (λ (a : ScalarType). unaryTyped u a t) (ext-type e i (omega arith)) ∙ w
+typed-ext e t (node.binary f i j) b w = (λ k. storedTyped f (ext-type e i (omega arith) k) (ext-type e j (omega arith) k) t) ∙ w
+
+pub refined-ext : (ρ : Env) {g h : List ℕ} → Extends g h → (t : ScalarType) (o : Op) → start o ≤ countOf g → Refined ρ g t o → Refined ρ h t o
+refined-ext ρ e t (node.constant c) b w = tt
+refined-ext ρ e t (node.input i) b w = tt
+refined-ext ρ e t (node.refine i) b w = λ v q. w v (sym (ext-value ρ e i (omega arith)) ∙ q)
+refined-ext ρ e t (node.effect i) b w = tt
+refined-ext ρ e t (node.slice i o v) b w = tt
+refined-ext ρ e t (node.concat i j v) b w = tt
+refined-ext ρ e t (node.unary u i) b w = tt
+refined-ext ρ e t (node.binary f i j) b w = tt
+
+leads-ext : (ρ : Env) {g h : List ℕ} → Extends g h → (n m : ℕ) → n < countOf g → Leads ρ g n m → Leads ρ h n m
+leads-ext ρ e n m l a = record {
+  here = ext-here e m (a .here);
+  type = ext-type e m (a .here) ∙ a .type ∙ sym (ext-type e n l);
+  means = ext-value ρ e m (a .here) ∙ a .means ∙ sym (ext-value ρ e n l);
+}
+
+-- ---- the end of a chain of aliases
+
+leads-refl : {ρ : Env} {g : List ℕ} (n : ℕ) → n < countOf g → Leads ρ g n n
+leads-refl n l = record { here = l; type = refl; means = refl }
+
+leads-trans : {ρ : Env} {g : List ℕ} (n m k : ℕ) → Leads ρ g n m → Leads ρ g m k → Leads ρ g n k
+leads-trans n m k a b = record { here = b .here; type = b .type ∙ a .type; means = b .means ∙ a .means }
+
+module _ (ρ : Env) (g : List ℕ) (i : Inv ρ g) where
+  follow-leads : (k n : ℕ) → n < countOf g → Leads ρ g n (follow g k n)
+  follow-leads zero n l = leads-refl n l
+  follow-leads (suc k) n l = go (i .alias n l) (λ m q. follow-leads k m q)
+    where
+      go : (aliasAt g n ≡ 0) ⊎ Leads ρ g n (aliasAt g n - 1) → ((m : ℕ) → m < countOf g → Leads ρ g m (follow g k m)) → Leads ρ g n (follow g (suc k) n)
+      go (inl e) r = rw (eq-eqb (aliasAt g n) 0 e) (leads-refl n l)
+      go (inr d) r = step (eqb (aliasAt g n) 0) refl
+        where
+          step : (t : Bool) → eqb (aliasAt g n) 0 ≡ t → Leads ρ g n (follow g (suc k) n)
+          step true q = rw q (leads-refl n l)
+          step false q = rw q (leads-trans n (aliasAt g n - 1) (follow g k (aliasAt g n - 1)) d (r (aliasAt g n - 1) (d .here)))
+
+  pub resolve-leads : (n : ℕ) → n < countOf g → Leads ρ g n (resolve g n)
+  unfolding resolve
+  resolve-leads n l = follow-leads LIMIT n l
+
+-- ---- an insertion
+
+-- a node that may be stored: its words can be read back, operands are below, types hold, its value lies in its range
+pub record Storable (ρ : Env) (g : List ℕ) (t : ScalarType) (r : Option Interval) (o : Op) : Type 0 where
+  pub stored : Stored t r o
+  pub below : start o ≤ countOf g
+  pub typed : Typed g t o
+  pub refined : Refined ρ g t o
+  pub ends : (a : Interval) → r ≡ some a → Ends a
+  pub within : (v : ℕ) → operationMeans ρ t o (value ρ g) ≡ some v → Within t v r
+
+-- the graph that a call leaves
+pub record Kept (ρ : Env) (g h : List ℕ) : Type 0 where
+  pub grows : Extends g h
+  pub inv : Inv ρ h
+
+pub kept-refl : {ρ : Env} {g : List ℕ} → Inv ρ g → Kept ρ g g
+kept-refl {g} i = record { grows = ext-refl g; inv = i }
+
+pub kept-trans : {ρ : Env} {g h k : List ℕ} → Kept ρ g h → Kept ρ h k → Kept ρ g k
+kept-trans a b = record { grows = ext-trans (a .grows) (b .grows); inv = b .inv }
+
+-- a node of type t, whose value is w wherever w is one
+pub record Found (ρ : Env) (t : ScalarType) (w : Option ℕ) (n : ℕ) (h : List ℕ) : Type 0 where
+  pub here : n < countOf h
+  pub type : typeAt h n ≡ t
+  pub means : (v : ℕ) → w ≡ some v → value ρ h n ≡ some v
+
+-- what is to hold of an answer and of the graph left, where type t and value w are asked for
+abbrev pub Answered : Env → List ℕ → ScalarType → Option ℕ → Reply → List ℕ → Type 0
+Answered ρ g t w (insert.id n) h = Kept ρ g h × Found ρ t w n h
+Answered ρ g t w insert.nothing h = Kept ρ g h
+Answered ρ g t w insert.room h = Kept ρ g h
+Answered ρ g t w insert.units h = Kept ρ g h
+
+module _ (ρ : Env) (g : List ℕ) (t : ScalarType) (r : Option Interval) (o : Op) (i : Inv ρ g) (s : Storable ρ g t r o) where
+  unfoldable ws : List ℕ
+  ws = wordsOf t r o
+
+  unfoldable grown : List ℕ
+  grown = appended g ws .words
+
+  module _ (room : countOf g < LIMIT) where
+    count-grown : countOf grown ≡ countOf g + 1
+    unfolding ws grown
+    count-grown = appended-count g (wordsOf t r o) (i .size) (length-words t r o) room
+
+    grows : Extends g grown
+    unfolding ws grown
+    grows = record {
+      more = omega (arith, count-grown);
+      same = λ n l. node-other g (wordsOf t r o) (i .size) (length-words t r o) room n (λ e. omega arith);
+    }
+
+    new : Holds grown (countOf g) t r o 0
+    unfolding ws grown
+    new = appended-new g t r o (i .size) room (s .stored)
+
+    -- what the new node means
+    new-means : value ρ grown (countOf g) ≡ operationMeans ρ t o (value ρ g)
+    new-means =
+        value-step ρ grown (countOf g) (rw (new .operation) (s .below)) ∙ (λ k. operationMeans ρ (new .type k) (new .operation k) (value ρ grown))
+        ∙ means-same ρ t (countOf g) o (s .below) (value ρ grown) (value ρ g) (λ n l. ext-value ρ grows n l)
+
+    -- what holds of the old nodes and of the new one
+    each : (P : ℕ → Type 0) → ((n : ℕ) → n < countOf g → P n) → P (countOf g) → (n : ℕ) → n < countOf grown → P n
+    each P a b n l = go (decLt n (countOf g))
+      where
+        go : Dec (n < countOf g) → P n
+        go (yes q) = a n q
+        go (no q) = let e : countOf g ≡ n = omega (arith, count-grown) in subst P e b
+
+    old-alias : (n : ℕ) → n < countOf g → aliasAt grown n ≡ aliasAt g n
+    unfolding ws grown
+    old-alias n l = appended-other g (wordsOf t r o) (i .size) (length-words t r o) room n (λ e. omega arith) .alias
+
+    grown-size : length grown ≡ REGION
+    unfolding ws grown
+    grown-size = appended-length g (wordsOf t r o) (i .size) (length-words t r o) room
+
+    grown-inv : Inv ρ grown
+    grown-inv = record {
+      size = grown-size;
+      few = omega (arith, count-grown);
+      below =
+          each (λ n. start (operationAt grown n) ≤ n) (λ n l. rw (ext-operation grows n l) (i .below n l))
+          (rw (new .operation) (s .below));
+      typed =
+          each (λ n. Typed grown (typeAt grown n) (operationAt grown n))
+          (λ n l.
+          rw (ext-type grows n l, ext-operation grows n l)
+          (typed-ext grows (typeAt g n) (operationAt g n) (let b = i .below n l in omega arith) (i .typed n l)))
+          (rw (new .type, new .operation) (typed-ext grows t o (s .below) (s .typed)));
+      refined =
+          each (λ n. Refined ρ grown (typeAt grown n) (operationAt grown n))
+          (λ n l.
+          rw (ext-type grows n l, ext-operation grows n l)
+          (refined-ext ρ grows (typeAt g n) (operationAt g n) (let b = i .below n l in omega arith) (i .refined n l)))
+          (rw (new .type, new .operation) (refined-ext ρ grows t o (s .below) (s .refined)));
+      ends =
+          each (λ n. (a : Interval) → rangeAt grown n ≡ some a → Ends a) (λ n l a q. i .ends n l a (sym (ext-range grows n l) ∙ q))
+          (λ a q. s .ends a (sym (new .range) ∙ q));
+      ranged =
+          each (λ n. (v : ℕ) → value ρ grown n ≡ some v → Within (typeAt grown n) v (rangeAt grown n))
+          (λ n l v q. rw (ext-type grows n l, ext-range grows n l) (i .ranged n l v (sym (ext-value ρ grows n l) ∙ q)))
+          (λ v q. rw (new .type, new .range) (s .within v (sym new-means ∙ q)));
+      alias =
+          each (λ n. (aliasAt grown n ≡ 0) ⊎ Leads ρ grown n (aliasAt grown n - 1))
+          (λ n l. rw (old-alias n l) (⊎-elim (λ e. inl e) (λ d. inr (leads-ext ρ grows n (aliasAt g n - 1) l d)) (i .alias n l)))
+          (inl (new .alias));
+    }
+
+  -- ---- what interning finds
+
+  found : (n : ℕ) → interned g o ws ≡ some n → Found ρ t (operationMeans ρ t o (value ρ g)) (resolve g n) g
+  unfolding ws
+  found n e =
+      let f = lowest-some (sameKey g (wordsOf t r o)) (min (start o) LIMIT) (min (countOf g) LIMIT - min (start o) LIMIT) n e in
+      let l : n < countOf g = omega (arith, f .0, f .1) in
+      let key = same-key g (wordsOf t r o) n (length-words t r o) .0 (f .2) in
+      let d = resolve-leads ρ g i n l in
+      record {
+        here = d .here;
+        type = d .type ∙ type-read g n t r o (s .stored) key;
+        means = λ v q.
+            d .means ∙ inv-step i n l
+            ∙ (λ k. operationMeans ρ (type-read g n t r o (s .stored) key k) (operation-read g n t r o (s .stored) key k) (value ρ g)) ∙ q;
+      }
+
+  unfoldable made-good : Made → Type 0
+  made-good m = Answered ρ g t (operationMeans ρ t o (value ρ g)) (m .answer) (m .words)
+
+  new-good : (b : Bool) → ltb (countOf g) LIMIT ≡ b → made-good (appended g ws)
+  unfolding made-good ws grown
+  new-good true e =
+      let room = ltb-true (countOf g) LIMIT e in
+      let a : appended g (wordsOf t r o) .answer ≡ insert.id (countOf g) = ap (λ (m : Made). m .answer) (appended-made g (wordsOf t r o) room) in
+      rw a (
+        record { grows = grows room; inv = grown-inv room },
+        record { here = omega (arith, count-grown room); type = new room .type; means = λ v q. new-means room ∙ q },
+      )
+  new-good false e = rw (appended-full g (wordsOf t r o) e) (kept-refl i)
+
+  -- an insertion keeps the invariant, and its node means the operation
+  pub insert-good : Answered ρ g t (operationMeans ρ t o (value ρ g)) (inserted g t r o .answer) (inserted g t r o .words)
+  unfolding made-good inserted ws
+  insert-good = go (interned g o (wordsOf t r o)) refl
+    where
+      go : (x : Option ℕ) → interned g o (wordsOf t r o) ≡ x → made-good (foundOr g x (appended g (wordsOf t r o)))
+      go none e = new-good (ltb (countOf g) LIMIT) refl
+      go (some n) e = (kept-refl i, found n e)

@@ -1,0 +1,4 @@
+pub mod Values
+pub mod Invariant
+pub mod Tree
+pub mod Retain

@@ -1,0 +1,185 @@
+-- Retain keeps what nodes mean: values and ranges carry over by the mapping, and the invariant holds of what is left. Assumes nothing.
+use mathlib.Core.Path.{_≡_, refl, sym, ap, _∙_, subst}
+use mathlib.Core.Bool.{true}
+use mathlib.Core.List.{List}
+use mathlib.Core.Logic.{_⊎_, inl, ⊎-elim}
+use mathlib.Core.Option.{Option, some}
+use Prim.Native.Nat.{ℕ, zero, suc, _-_, _≤_, _<_}
+use native.Mathlib.Omega.{arith}
+use borrow.Author.Tests.{ne-eqb, lt-ltb, le-ltb, le-leb}
+use Rattle.word.proofs.Integer.{lt-or-ge}
+use Rattle.range.specs.Interval.{Interval}
+use Rattle.range.specs.declared.ScalarType.{ScalarType}
+use Rattle.graph.specs.Layout.{wordAt, countOf}
+use Rattle.graph.specs.Node as node
+use Rattle.graph.specs.Node.{Op, typeAt, rangeAt, operationOf, operationAt, aliasAt}
+use Rattle.graph.proofs.Grown.{Graph, graph-facts, start-le}
+use Rattle.graph.proofs.Nodes.{Holds}
+use Rattle.retain.specs.Retain.{isKept, hasFirst, hasSecond, keptBelow, newId, retained, renamed}
+use Rattle.retain.proofs.Operands.{operator, Choice, first-below, second-below, first-kept, second-kept}
+use Rattle.retain.proofs.Laws.{id-kept, kept-less, retained-count, retained-node}
+use Rattle.retain.proofs.Grown.{Origin, origin-of, retained-graph}
+use Rattle.native.specs.Typing.{unaryTyped, concatTyped}
+use Rattle.meaning.specs.Value.{Env, size, operationMeans, value}
+use Rattle.meaning.proofs.Values.{value-step}
+use Rattle.meaning.proofs.Invariant.{storedTyped, Typed, Refined, Ends, Within, Leads, Inv, inv-step}
+
+-- ---- an operation with its operands renumbered
+
+-- the operands of an operation have a property
+abbrev Operands : (ℕ → Type 0) → Op → Type 0
+Operands P (node.constant c) = Unit {0}
+Operands P (node.input i) = Unit {0}
+Operands P (node.refine i) = P i
+Operands P (node.effect i) = Unit {0}
+Operands P (node.slice i o w) = P i
+Operands P (node.concat i j v) = P i × P j
+Operands P (node.unary u i) = P i
+Operands P (node.binary b i j) = P i × P j
+
+operands-map : (P Q : ℕ → Type 0) → ((i : ℕ) → P i → Q i) → (o : Op) → Operands P o → Operands Q o
+operands-map P Q h (node.constant c) e = tt
+operands-map P Q h (node.input i) e = tt
+operands-map P Q h (node.refine i) e = h i e
+operands-map P Q h (node.effect i) e = tt
+operands-map P Q h (node.slice i o w) e = h i e
+operands-map P Q h (node.concat i j v) e = (h i (e .0), h j (e .1))
+operands-map P Q h (node.unary u i) e = h i e
+operands-map P Q h (node.binary b i j) e = (h i (e .0), h j (e .1))
+
+-- by the words that hold them
+operands-of : (P : ℕ → Type 0) (code x y z : ℕ) → (hasFirst code ≡ true → P x) → (hasSecond code ≡ true → P y) → Operands P (operationOf code x y z)
+operands-of P zero x y z a b = tt
+operands-of P (suc zero) x y z a b = tt
+operands-of P (suc (suc zero)) x y z a b = a refl
+operands-of P (suc (suc (suc zero))) x y z a b = tt
+operands-of P (suc (suc (suc (suc zero)))) x y z a b = a refl
+operands-of P (suc (suc (suc (suc (suc zero))))) x y z a b = (a refl, b refl)
+operands-of P (suc (suc (suc (suc (suc (suc c)))))) x y z a b =
+    let code = suc (suc (suc (suc (suc (suc c))))) in
+    let first : hasFirst code ≡ true = rw (ne-eqb code 2 (λ q. omega arith), le-leb 4 code (omega arith)) in
+    rw (operator code x y z (omega arith))
+    (⊎-elim (λ (s : code < 20). rw (lt-ltb code 20 s) (a first))
+    (λ (s : 20 ≤ code).
+    let second : hasSecond code ≡ true = rw (ne-eqb code 5 (λ q. omega arith), le-leb 20 code s) in
+    rw (le-ltb code 20 s) (a first, b second))
+    (lt-or-ge code 20))
+
+means-renamed : (ρ : Env) (t : ScalarType) (f : ℕ → ℕ) (look new : ℕ → Option ℕ) (o : Op) → Operands (λ i. new (f i) ≡ look i) o
+    → operationMeans ρ t (renamed f o) new ≡ operationMeans ρ t o look
+means-renamed ρ t f look new (node.constant c) e = refl
+means-renamed ρ t f look new (node.input i) e = refl
+means-renamed ρ t f look new (node.refine i) e = rw e
+means-renamed ρ t f look new (node.effect i) e = refl
+means-renamed ρ t f look new (node.slice i o w) e = rw e
+means-renamed ρ t f look new (node.concat i j v) e = rw (e .0, e .1)
+means-renamed ρ t f look new (node.unary u i) e = rw e
+means-renamed ρ t f look new (node.binary b i j) e = rw (e .0, e .1)
+
+typed-renamed : (g h : List ℕ) (t : ScalarType) (f : ℕ → ℕ) (o : Op) → Operands (λ i. typeAt h (f i) ≡ typeAt g i) o → Typed g t o → Typed h t (renamed f o)
+typed-renamed g h t f (node.constant c) e w = w
+typed-renamed g h t f (node.input i) e w = tt
+typed-renamed g h t f (node.refine i) e w = tt
+typed-renamed g h t f (node.effect i) e w = tt
+typed-renamed g h t f (node.slice i o v) e w = w
+typed-renamed g h t f (node.concat i j v) e w = (w .0, w .1, (λ k. concatTyped (e .0 k) (e .1 k) v (w .0)) ∙ w .2)
+typed-renamed g h t f (node.unary u i) e w = ap (λ (a : ScalarType). unaryTyped u a t) e ∙ w
+typed-renamed g h t f (node.binary b i j) e w = (λ k. storedTyped b (e .0 k) (e .1 k) t) ∙ w
+
+refined-renamed : (ρ : Env) (g h : List ℕ) (t : ScalarType) (f : ℕ → ℕ) (o : Op) → Operands (λ i. value ρ h (f i) ≡ value ρ g i) o → Refined ρ g t o
+    → Refined ρ h t (renamed f o)
+refined-renamed ρ g h t f (node.constant c) e w = tt
+refined-renamed ρ g h t f (node.input i) e w = tt
+refined-renamed ρ g h t f (node.refine i) e w = λ v q. w v (sym e ∙ q)
+refined-renamed ρ g h t f (node.effect i) e w = tt
+refined-renamed ρ g h t f (node.slice i o v) e w = tt
+refined-renamed ρ g h t f (node.concat i j v) e w = tt
+refined-renamed ρ g h t f (node.unary u i) e w = tt
+refined-renamed ρ g h t f (node.binary b i j) e w = tt
+
+-- ---- what is left
+
+module _ (ρ : Env) {g keep mapping : List ℕ} (i : Inv ρ g) (f : Graph g) (d : Choice g keep mapping) where
+  left : Graph (retained g keep)
+  left = graph-facts (retained g keep) (retained-graph f d)
+
+  module _ (n : ℕ) (l : n < countOf g) (e : isKept keep n ≡ true) where
+    pub kept-here : keptBelow keep n < countOf (retained g keep)
+    kept-here = omega (arith, kept-less keep n (countOf g) l e, retained-count g keep f)
+
+    at : Holds (retained g keep) (keptBelow keep n) (typeAt g n) (rangeAt g n) (renamed (newId keep) (operationAt g n)) 0
+    at = retained-node g keep f n l e
+
+    operands : Operands (λ j. (j < n) × (isKept keep j ≡ true)) (operationAt g n)
+    operands =
+        operands-of (λ j. (j < n) × (isKept keep j ≡ true)) (wordAt g n 7) (wordAt g n 8) (wordAt g n 9) (wordAt g n 10)
+        (λ a. (first-below f n l a, first-kept d n l e a)) (λ a. (second-below f n l a, second-kept d n l e a))
+
+    step : value ρ (retained g keep) (keptBelow keep n)
+        ≡ operationMeans ρ (typeAt g n) (renamed (newId keep) (operationAt g n)) (value ρ (retained g keep))
+    step =
+        value-step ρ (retained g keep) (keptBelow keep n) (start-le left (keptBelow keep n) kept-here)
+        ∙ (λ k. operationMeans ρ (at .type k) (at .operation k) (value ρ (retained g keep)))
+
+  value-below : (m n : ℕ) → n < m → (l : n < countOf g) → (e : isKept keep n ≡ true) → value ρ (retained g keep) (keptBelow keep n) ≡ value ρ g n
+  value-below zero n q l e = absurd (omega arith)
+  value-below (suc m) n q l e = go (λ j p k. value-below m j (omega arith) (omega arith) k)
+    where
+      go : ((j : ℕ) → j < n → isKept keep j ≡ true → value ρ (retained g keep) (keptBelow keep j) ≡ value ρ g j)
+          → value ρ (retained g keep) (keptBelow keep n) ≡ value ρ g n
+      go ih =
+          step n l e
+          ∙ means-renamed ρ (typeAt g n) (newId keep) (value ρ g) (value ρ (retained g keep)) (operationAt g n)
+          (operands-map (λ j. (j < n) × (isKept keep j ≡ true)) (λ j. value ρ (retained g keep) (newId keep j) ≡ value ρ g j)
+          (λ j p. ap (value ρ (retained g keep)) (id-kept keep j (p .1)) ∙ ih j (p .0) (p .1)) (operationAt g n) (operands n l e))
+          ∙ sym (inv-step i n l)
+
+  module _ (n : ℕ) (l : n < countOf g) (e : isKept keep n ≡ true) where
+    -- a kept node means what it meant
+    pub retain-value : value ρ (retained g keep) (keptBelow keep n) ≡ value ρ g n
+    retain-value = value-below (suc n) n (omega arith) l e
+
+    pub retain-type : typeAt (retained g keep) (keptBelow keep n) ≡ typeAt g n
+    retain-type = at n l e .type
+
+  -- what holds of every kept node holds of every node that is left
+  each : (P : ℕ → Type 0) → ((n : ℕ) → n < countOf g → isKept keep n ≡ true → P (keptBelow keep n)) → (j : ℕ) → j < countOf (retained g keep) → P j
+  each P h j l = go (origin-of keep (countOf g) j (omega (arith, retained-count g keep f)))
+    where
+      go : Origin keep (countOf g) j → P j
+      go o = subst P (o .new) (h (o .old) (o .below) (o .kept))
+
+  moved : (P : ℕ → Type 0) (n : ℕ) → (l : n < countOf g) → (e : isKept keep n ≡ true)
+      → ((j : ℕ) → j < countOf g → isKept keep j ≡ true → P j) → Operands P (operationAt g n)
+  moved P n l e h =
+      operands-map (λ j. (j < n) × (isKept keep j ≡ true)) P (λ j p. let b = p .0 in h j (omega arith) (p .1)) (operationAt g n) (operands n l e)
+
+  pub retain-inv : Inv ρ (retained g keep)
+  retain-inv = record {
+    size = left .length;
+    few = left .count;
+    below = λ n l. start-le left n l;
+    typed =
+        each (λ j. Typed (retained g keep) (typeAt (retained g keep) j) (operationAt (retained g keep) j))
+        (λ n l e.
+        rw (at n l e .type, at n l e .operation)
+        (typed-renamed g (retained g keep) (typeAt g n) (newId keep) (operationAt g n)
+        (moved (λ j. typeAt (retained g keep) (newId keep j) ≡ typeAt g j) n l e
+        (λ j b k. ap (typeAt (retained g keep)) (id-kept keep j k) ∙ retain-type j b k)) (i .typed n l)));
+    refined =
+        each (λ j. Refined ρ (retained g keep) (typeAt (retained g keep) j) (operationAt (retained g keep) j))
+        (λ n l e.
+        rw (at n l e .type, at n l e .operation)
+        (refined-renamed ρ g (retained g keep) (typeAt g n) (newId keep) (operationAt g n)
+        (moved (λ j. value ρ (retained g keep) (newId keep j) ≡ value ρ g j) n l e
+        (λ j b k. ap (value ρ (retained g keep)) (id-kept keep j k) ∙ retain-value j b k)) (i .refined n l)));
+    ends =
+        each (λ j. (a : Interval) → rangeAt (retained g keep) j ≡ some a → Ends a)
+        (λ n l e a q. i .ends n l a (sym (at n l e .range) ∙ q));
+    ranged =
+        each (λ j. (v : ℕ) → value ρ (retained g keep) j ≡ some v → Within (typeAt (retained g keep) j) v (rangeAt (retained g keep) j))
+        (λ n l e v q. rw (at n l e .type, at n l e .range) (i .ranged n l v (sym (retain-value n l e) ∙ q)));
+    alias =
+        each (λ j. (aliasAt (retained g keep) j ≡ 0) ⊎ Leads ρ (retained g keep) j (aliasAt (retained g keep) j - 1))
+        (λ n l e. inl (at n l e .alias));
+  }
