@@ -2,3 +2,5 @@ pub mod Values
 pub mod Invariant
 pub mod Tree
 pub mod Retain
+pub mod Constants
+pub mod Plans

@@ -1,0 +1,121 @@
+-- Constants: a value of its type, stored with its range, means itself. Assumes nothing.
+use mathlib.Core.Path.{_≡_, refl, sym, ap, _∙_, subst}
+use mathlib.Core.Bool.{Bool, true, false, cond, false≢true}
+use mathlib.Core.List.{List}
+use mathlib.Core.Logic.{⊎-elim}
+use mathlib.Core.Option.{Option, none, some}
+use Prim.Native.Nat.{ℕ, _^_, _≤_, _<_}
+use native.Mathlib.Nat.{mod-eq-of-lt, lt-of-lt-of-le, le-refl}
+use native.Mathlib.Omega.{arith}
+use lib.Dec.{lit<}
+use lib.IntN.{ℤ, pos}
+use lib.Pow.{pow-mono, pow-pos}
+use lib.Signed.{mag}
+use Rattle.word.specs.Value.{isNeg, signed}
+use Rattle.word.proofs.Integer.{lt-or-ge, signed-low, signed-high, signed-mag}
+use Rattle.range.specs.Interval.{Interval, _∈_, point}
+use Rattle.range.specs.declared.ScalarType.{ScalarType}
+use Rattle.range.specs.declared.ScalarType.the-variants as ty
+use Rattle.range.proofs.Sound.{point-in}
+use Rattle.evaluate.specs.Evaluate.{reduced}
+use Rattle.evaluate.specs.Operator.{typeWidth}
+use Rattle.graph.specs.Node as node
+use Rattle.graph.specs.Insert.{constantInterval}
+use Rattle.graph.proofs.Codes.{lowEnd, highEnd}
+use Rattle.meaning.specs.Value.{Env, size, integerOf, ofType, valued, operationMeans, value}
+use Rattle.meaning.proofs.Values.{some-is, typed-of}
+use Rattle.meaning.proofs.Invariant.{Ends, Within, Storable}
+
+no-interval : {a : Interval} → none ≡ some a → ⊥
+no-interval e = let z : _≡_ {A = ℕ} 0 1 = cc in omega arith
+
+the : {a b : Interval} → some a ≡ some b → a ≡ b
+the e = cc
+
+-- ---- sizes
+
+pub size-le : (t : ScalarType) → typeWidth t ≤ 128 → size t ≤ 2 ^ 128
+size-le ty.Bool l = pow-mono {i = 1} {j = 128} (omega arith)
+size-le (ty.Bits w) l = pow-mono l
+size-le ty.Integer l = le-refl (2 ^ 128)
+
+pub pattern : (t : ScalarType) (c : ℕ) → typeWidth t ≤ 128 → c < size t → c < 2 ^ 128
+pattern t c l h = lt-of-lt-of-le h (size-le t l)
+
+-- a value of its type is not changed by reducing it
+pub reduced-same : (t : ScalarType) (c : ℕ) → c < size t → reduced t c ≡ c
+reduced-same ty.Bool c h = refl
+reduced-same (ty.Bits w) c h = mod-eq-of-lt h
+reduced-same ty.Integer c h = refl
+
+pub valued-same : (t : ScalarType) (c : ℕ) → c < size t → valued t c ≡ some c
+valued-same t c h = ap (λ (n : ℕ). ofType t n) (reduced-same t c h) ∙ typed-of t c h
+
+-- ---- ranges
+
+-- a pattern below half is its own integer, another is negative
+signed-parts : (c : ℕ) → c < 2 ^ 128 → (isNeg (signed 128 c) ≡ false → signed 128 c ≡ pos c)
+signed-parts c h e =
+    ⊎-elim (λ (l : c < 2 ^ 127). signed-low 128 c l)
+    (λ (l : 2 ^ 127 ≤ c). absurd (false≢true (sym e ∙ ap isNeg (signed-high 128 c l h))))
+    (lt-or-ge c (2 ^ 127))
+
+module _ (t : ScalarType) (c : ℕ) (l : typeWidth t ≤ 128) (h : c < size t) where
+  pub constant-ends : (a : Interval) → constantInterval t c ≡ some a → Ends a
+  constant-ends a e = by t e
+    where
+      small : mag (signed 128 c) < 2 ^ 127
+      small = signed-mag 128 c (lit< tt) (pattern t c l h)
+
+      here : some (point (signed 128 c)) ≡ some a → Ends a
+      here q = let p : point (signed 128 c) ≡ a = cc in subst Ends p (record { low = small; high = small })
+
+      maybe : (b : Bool) → cond b none (some (point (signed 128 c))) ≡ some a → Ends a
+      maybe true q = absurd (no-interval q)
+      maybe false q = here q
+
+      by : (s : ScalarType) → constantInterval s c ≡ some a → Ends a
+      by ty.Bool q = here q
+      by (ty.Bits w) q = maybe (isNeg (signed 128 c)) q
+      by ty.Integer q = here q
+
+  pub constant-within : Within t c (constantInterval t c)
+  constant-within a e = by t refl e
+    where
+      here : (z : ℤ) → z ≡ signed 128 c → some (point (signed 128 c)) ≡ some a → z ∈ a
+      here z p q = let r : point z ≡ a = ap point p ∙ the q in subst (λ (b : Interval). z ∈ b) r (point-in z)
+
+      maybe : (b : Bool) → isNeg (signed 128 c) ≡ b → cond b none (some (point (signed 128 c))) ≡ some a → (pos c) ∈ a
+      maybe true p q = absurd (no-interval q)
+      maybe false p q = here (pos c) (sym (signed-parts c (pattern t c l h) p)) q
+
+      by : (s : ScalarType) → t ≡ s → constantInterval s c ≡ some a → (integerOf s c) ∈ a
+      by ty.Bool p q = here (pos c) (sym (signed-low 128 c (lt-of-lt-of-le (subst (λ (s : ScalarType). c < size s) p h) (pow-mono {i = 1} {j = 127} (omega arith))))) q
+      by (ty.Bits w) p q = maybe (isNeg (signed 128 c)) refl q
+      by ty.Integer p q = here (signed 128 c) refl q
+
+-- ---- storing
+
+module _ (ρ : Env) (g : List ℕ) (t : ScalarType) (c : ℕ) (l : typeWidth t ≤ 128) (h : c < size t) where
+  pub constant-means : operationMeans ρ t (node.constant c) (value ρ g) ≡ some c
+  constant-means = valued-same t c h
+
+  pub constant-storable : Storable ρ g t (constantInterval t c) (node.constant c)
+  constant-storable = record {
+    stored = record {
+      width = omega arith;
+      low = ends lowEnd refl (λ a e. e .low) (constantInterval t c) refl;
+      high = ends highEnd refl (λ a e. e .high) (constantInterval t c) refl;
+      offset = omega arith;
+      parameter = omega arith;
+    };
+    below = omega arith;
+    typed = h;
+    refined = tt;
+    ends = constant-ends t c l h;
+    within = λ v e. let p : v ≡ c = sym (some-is (sym constant-means ∙ e)) in subst (λ (n : ℕ). Within t n (constantInterval t c)) (sym p) (constant-within t c l h);
+  }
+    where
+      ends : (f : Option Interval → ℤ) → f none ≡ pos 0 → ((a : Interval) → Ends a → mag (f (some a)) < 2 ^ 127) → (r : Option Interval) → constantInterval t c ≡ r → mag (f r) < 2 ^ 127
+      ends f z k none e = rw z (pow-pos 127)
+      ends f z k (some a) e = k a (constant-ends t c l h a e)
