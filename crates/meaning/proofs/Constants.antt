@@ -29,7 +29,7 @@ use Rattle.meaning.proofs.Invariant.{Ends, Within, Storable}
 no-interval : {a : Interval} → none ≡ some a → ⊥
 no-interval e = let z : _≡_ {A = ℕ} 0 1 = cc in omega arith
 
-the : {a b : Interval} → some a ≡ some b → a ≡ b
+pub the : {a b : Interval} → some a ≡ some b → a ≡ b
 the e = cc
 
 -- ---- sizes
@@ -54,7 +54,7 @@ valued-same t c h = ap (λ (n : ℕ). ofType t n) (reduced-same t c h) ∙ typed
 -- ---- ranges
 
 -- a pattern below half is its own integer, another is negative
-signed-parts : (c : ℕ) → c < 2 ^ 128 → (isNeg (signed 128 c) ≡ false → signed 128 c ≡ pos c)
+pub signed-parts : (c : ℕ) → c < 2 ^ 128 → (isNeg (signed 128 c) ≡ false → signed 128 c ≡ pos c)
 signed-parts c h e =
     ⊎-elim (λ (l : c < 2 ^ 127). signed-low 128 c l)
     (λ (l : 2 ^ 127 ≤ c). absurd (false≢true (sym e ∙ ap isNeg (signed-high 128 c l h))))
@@ -96,6 +96,18 @@ module _ (t : ScalarType) (c : ℕ) (l : typeWidth t ≤ 128) (h : c < size t) w
 
 -- ---- storing
 
+-- the ends of a range that is stored, 0 without one
+stored-end : (f : Option Interval → ℤ) → f none ≡ pos 0 → ((a : Interval) → Ends a → mag (f (some a)) < 2 ^ 127) → (r : Option Interval)
+    → ((a : Interval) → r ≡ some a → Ends a) → mag (f r) < 2 ^ 127
+stored-end f z k none e = rw z (pow-pos 127)
+stored-end f z k (some a) e = k a (e a refl)
+
+pub stored-low : (r : Option Interval) → ((a : Interval) → r ≡ some a → Ends a) → mag (lowEnd r) < 2 ^ 127
+stored-low = stored-end lowEnd refl (λ a e. e .low)
+
+pub stored-high : (r : Option Interval) → ((a : Interval) → r ≡ some a → Ends a) → mag (highEnd r) < 2 ^ 127
+stored-high = stored-end highEnd refl (λ a e. e .high)
+
 module _ (ρ : Env) (g : List ℕ) (t : ScalarType) (c : ℕ) (l : typeWidth t ≤ 128) (h : c < size t) where
   pub constant-means : operationMeans ρ t (node.constant c) (value ρ g) ≡ some c
   constant-means = valued-same t c h
@@ -104,18 +116,15 @@ module _ (ρ : Env) (g : List ℕ) (t : ScalarType) (c : ℕ) (l : typeWidth t �
   constant-storable = record {
     stored = record {
       width = omega arith;
-      low = ends lowEnd refl (λ a e. e .low) (constantInterval t c) refl;
-      high = ends highEnd refl (λ a e. e .high) (constantInterval t c) refl;
+      low = stored-low (constantInterval t c) (constant-ends t c l h);
+      high = stored-high (constantInterval t c) (constant-ends t c l h);
       offset = omega arith;
       parameter = omega arith;
     };
+    width = l;
     below = omega arith;
     typed = h;
     refined = tt;
     ends = constant-ends t c l h;
     within = λ v e. let p : v ≡ c = sym (some-is (sym constant-means ∙ e)) in subst (λ (n : ℕ). Within t n (constantInterval t c)) (sym p) (constant-within t c l h);
   }
-    where
-      ends : (f : Option Interval → ℤ) → f none ≡ pos 0 → ((a : Interval) → Ends a → mag (f (some a)) < 2 ^ 127) → (r : Option Interval) → constantInterval t c ≡ r → mag (f r) < 2 ^ 127
-      ends f z k none e = rw z (pow-pos 127)
-      ends f z k (some a) e = k a (constant-ends t c l h a e)

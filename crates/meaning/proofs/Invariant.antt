@@ -15,6 +15,7 @@ use lib.Signed.{mag}
 use Rattle.range.specs.Interval.{Interval, _∈_, both}
 use Rattle.range.specs.declared.ScalarType.{ScalarType}
 use Rattle.range.specs.declared.ScalarType.the-variants as ty
+use Rattle.evaluate.specs.Operator.{typeWidth}
 use Rattle.evaluate.specs.declared.Binary.{Binary}
 use Rattle.evaluate.specs.declared.Binary.the-variants as bi
 use Rattle.graph.specs.Layout.{REGION, LIMIT, countOf}
@@ -105,6 +106,7 @@ pub record Inv (ρ : Env) (g : List ℕ) : Type 0 where
   pub size : length g ≡ REGION
   pub few : countOf g ≤ LIMIT
   pub below : (n : ℕ) → n < countOf g → start (operationAt g n) ≤ n
+  pub width : (n : ℕ) → n < countOf g → typeWidth (typeAt g n) ≤ 128
   pub typed : (n : ℕ) → n < countOf g → Typed g (typeAt g n) (operationAt g n)
   pub refined : (n : ℕ) → n < countOf g → Refined ρ g (typeAt g n) (operationAt g n)
   pub ends : (n : ℕ) → n < countOf g → (a : Interval) → rangeAt g n ≡ some a → Ends a
@@ -203,6 +205,7 @@ module _ (ρ : Env) (g : List ℕ) (i : Inv ρ g) where
 -- a node that may be stored: its words can be read back, operands are below, types hold, its value lies in its range
 pub record Storable (ρ : Env) (g : List ℕ) (t : ScalarType) (r : Option Interval) (o : Op) : Type 0 where
   pub stored : Stored t r o
+  pub width : typeWidth t ≤ 128
   pub below : start o ≤ countOf g
   pub typed : Typed g t o
   pub refined : Refined ρ g t o
@@ -285,6 +288,8 @@ module _ (ρ : Env) (g : List ℕ) (t : ScalarType) (r : Option Interval) (o : O
       below =
           each (λ n. start (operationAt grown n) ≤ n) (λ n l. rw (ext-operation grows n l) (i .below n l))
           (rw (new .operation) (s .below));
+      width =
+          each (λ n. typeWidth (typeAt grown n) ≤ 128) (λ n l. rw (ext-type grows n l) (i .width n l)) (rw (new .type) (s .width));
       typed =
           each (λ n. Typed grown (typeAt grown n) (operationAt grown n))
           (λ n l.

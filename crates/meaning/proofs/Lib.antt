@@ -4,3 +4,4 @@ pub mod Tree
 pub mod Retain
 pub mod Constants
 pub mod Plans
+pub mod Views

@@ -10,6 +10,7 @@ use borrow.Author.Tests.{ne-eqb, lt-ltb, le-ltb, le-leb}
 use Rattle.word.proofs.Integer.{lt-or-ge}
 use Rattle.range.specs.Interval.{Interval}
 use Rattle.range.specs.declared.ScalarType.{ScalarType}
+use Rattle.evaluate.specs.Operator.{typeWidth}
 use Rattle.graph.specs.Layout.{wordAt, countOf}
 use Rattle.graph.specs.Node as node
 use Rattle.graph.specs.Node.{Op, typeAt, rangeAt, operationOf, operationAt, aliasAt}
@@ -159,6 +160,7 @@ module _ (ρ : Env) {g keep mapping : List ℕ} (i : Inv ρ g) (f : Graph g) (d 
     size = left .length;
     few = left .count;
     below = λ n l. start-le left n l;
+    width = each (λ j. typeWidth (typeAt (retained g keep) j) ≤ 128) (λ n l e. rw (at n l e .type) (i .width n l));
     typed =
         each (λ j. Typed (retained g keep) (typeAt (retained g keep) j) (operationAt (retained g keep) j))
         (λ n l e.
