@@ -5,3 +5,6 @@ pub mod Retain
 pub mod Constants
 pub mod Plans
 pub mod Views
+pub mod Modular
+pub mod Ranges
+pub mod Field

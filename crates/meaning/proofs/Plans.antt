@@ -15,8 +15,10 @@ use Rattle.evaluate.specs.declared.Unary.the-variants as un
 use Rattle.graph.specs.Layout.{countOf}
 use Rattle.graph.specs.Node.{typeAt}
 use Rattle.plan.specs.Plan as plan
-use Rattle.plan.specs.Plan.{Plan}
-use Rattle.build.specs.Build.{Call, identity, unary, binary, slice, concat, Prog, constantThen, answer, tail, byConstant, planProg}
+use Rattle.plan.specs.Plan.{Plan, Attempt, First}
+use Rattle.fold.specs.Bitfield.{Mask}
+use Rattle.build.specs.Rest.{restPlan}
+use Rattle.build.specs.Build.{Call, identity, unary, modular, binary, slice, concat, Prog, call, constantThen, answer, tail, byConstant, planProg, maskProg, attemptProg, firstProg}
 use Rattle.native.specs.Typing.{concatTyped}
 use Rattle.meaning.specs.Value.{Env, size, valued, andThen, unaryMeans, binaryMeans, sliceMeans, concatMeans, operationMeans, value}
 use Rattle.meaning.proofs.Values.{then-is}
@@ -90,6 +92,29 @@ module _ (ρ : Env) (g : List ℕ) (t : ScalarType) (w : Option ℕ) where
   Claim (plan.splitConcat l o v h u s) =
       Callable g (slice l o v) × Callable g (slice h 0 u) × (s ≤ 128) × (concatTyped (ty.Bits u) (ty.Bits v) v s ≡ true) × (ty.Bits s ≡ t)
       × Covers w (concatMeans (ty.Bits s) v (sliceMeans (ty.Bits u) 0 (value ρ g h)) (sliceMeans (ty.Bits v) o (value ρ g l)))
+
+-- ---- claims of what a builder does first
+
+module _ (ρ : Env) (g : List ℕ) (t : ScalarType) (w : Option ℕ) where
+  -- a masked operation: And of the base and the mask, then the operation on that and the literal
+  abbrev pub Masking : Mask → Type 0
+  Masking m =
+      Number (m .type) (m .mask) × Number (m .type) (m .literal) × (m .base < countOf g)
+      × (storedTyped bi.And (typeAt g (m .base)) (m .type) (m .type) ≡ true) × (m .result ≡ t) × (typeWidth (m .result) ≤ 128)
+      × (storedTyped (m .op) (m .type) (m .type) (m .result) ≡ true)
+      × Covers w
+      (binaryMeans (m .result) (m .op) (binaryMeans (m .type) bi.And (value ρ g (m .base)) (some (reduced (m .type) (m .mask))))
+      (some (reduced (m .type) (m .literal))))
+
+  -- a fold that may come to None
+  abbrev pub Trying : Attempt → Type 0
+  Trying (plan.modular v u) = Tail ρ g t w (modular v u)
+  Trying (plan.masked m) = Masking m
+
+  -- what a builder does first, and where it goes on after None
+  abbrev pub FirstClaim : First → Type 0
+  FirstClaim (plan.does p) = Claim ρ g t w p
+  FirstClaim (plan.tries a r) = Trying a × ((h : List ℕ) → Kept ρ g h → Claim ρ h t w (restPlan h r))
 
 -- ---- and that they make their programs good
 
@@ -211,3 +236,36 @@ module _ (ρ : Env) (t : ScalarType) (w : Option ℕ) where
           ),
     ),
   )
+
+  mask-good : (g : List ℕ) (m : Mask) → Masking ρ g t w m → Good ρ t w (maskProg m) g
+  mask-good g m k =
+      constant-good g (m .type) (m .mask)
+      (λ c. call (binary (m .type) bi.And (m .base) c) (λ a. byConstant (m .type) (m .literal) (m .result) (m .op) a)) (k .0)
+      (λ c h a here type means. (
+        (
+          k .0 .width,
+          ext-here (a .grows) (m .base) (k .2),
+          here,
+          (λ z. storedTyped bi.And (ext-type (a .grows) (m .base) (k .2) z) (type z) (m .type)) ∙ k .3,
+        ),
+        λ n j b f.
+            by-constant-good j (m .type) (m .literal) (m .result) (m .op) n (
+              k .1,
+              k .4,
+              k .5,
+              f .here,
+              ap (λ (s : ScalarType). storedTyped (m .op) s (m .type) (m .result)) (f .type) ∙ k .6,
+              λ x e.
+                  binary-covers (m .result) (m .op) (binaryMeans (m .type) bi.And (value ρ g (m .base)) (some (reduced (m .type) (m .mask))))
+                  (some (reduced (m .type) (m .literal))) (value ρ j n) (some (reduced (m .type) (m .literal)))
+                  (λ y q. f .means y ((λ z. binaryMeans (m .type) bi.And (ext-value ρ (a .grows) (m .base) (k .2) z) (means z)) ∙ q)) (λ y q. q) x (k .7 x e),
+            ),
+      ))
+
+  attempt-good : (g : List ℕ) (a : Attempt) → Trying ρ g t w a → Good ρ t w (attemptProg a) g
+  attempt-good g (plan.modular v u) k = tail-good g (modular v u) k
+  attempt-good g (plan.masked m) k = mask-good g m k
+
+  pub first-good : (g : List ℕ) → Inv ρ g → (f : First) → FirstClaim ρ g t w f → Good ρ t w (firstProg f) g
+  first-good g i (plan.does p) k = perform-good g i p k
+  first-good g i (plan.tries a r) k = (attempt-good g a (k .0), λ h b. perform-good h (b .inv) (restPlan h r) (k .1 h b))

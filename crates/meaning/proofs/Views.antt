@@ -4,22 +4,22 @@ use mathlib.Core.Bool.{Bool, true, false, cond, false≢true}
 use mathlib.Core.List.{List}
 use mathlib.Core.Logic.{⊎-elim}
 use mathlib.Core.Option.{Option, none, some}
-use Prim.Native.Nat.{ℕ, _-_, _%_, _^_, _≤_, _<_}
-use native.Mathlib.Nat.{mod-mod, lt-of-lt-of-le, lt-of-le-of-lt}
+use Prim.Native.Nat.{ℕ, _-_, _^_, _≤_, _<_}
+use native.Mathlib.Nat.{mod-mod, lt-of-le-of-lt}
 use native.Mathlib.Omega.{arith}
 use borrow.Author.Tests.{eqb-true, leb-true, eq-eqb}
-use lib.Dec.{eqb, leb, T}
+use lib.Dec.{leb}
 use lib.IntN.{ℤ, pos, negsuc}
-use lib.Pow.{pow-pos, lt-of-le-ones}
+use lib.Pow.{lt-of-le-ones}
 use lib.Signed.{mag, leZ, _≤ℤ_}
 use Rattle.word.specs.Value.{isNeg, signed}
-use Rattle.word.proofs.Integer.{lt-or-ge, signed-low}
-use Rattle.range.specs.Interval.{Interval, _∈_, both, one, nonnegative, insideBits}
+use Rattle.word.proofs.Integer.{signed-low}
+use Rattle.range.specs.Interval.{Interval, _∈_, nonnegative, insideBits}
 use Rattle.range.specs.declared.ScalarType.{ScalarType}
 use Rattle.range.specs.declared.ScalarType.the-variants as ty
-use Rattle.range.proofs.Order.{le-parts, orders}
+use Rattle.range.proofs.Order.{le-parts}
 use Rattle.range.proofs.Sound.{tests, either}
-use Rattle.evaluate.specs.Evaluate.{reduced, evaluateUnary}
+use Rattle.evaluate.specs.Evaluate.{evaluateUnary}
 use Rattle.evaluate.specs.Operator.{typeWidth}
 use Rattle.evaluate.specs.declared.Unary.the-variants as un
 use Rattle.graph.specs.Layout.{countOf}
@@ -28,11 +28,11 @@ use Rattle.graph.specs.Node.{typeAt, rangeAt, operationAt}
 use Rattle.fold.specs.Shape.{sameType, notNegative, fits}
 use Rattle.plan.specs.Plan as plan
 use Rattle.plan.specs.Single.{viewPlan, identityPlan}
-use Rattle.meaning.specs.Value.{Env, size, integerOf, ofType, valued, andThen, unaryMeans, operationMeans, value}
+use Rattle.meaning.specs.Value.{Env, size, integerOf, ofType, valued, andThen, unaryMeans, value}
 use Rattle.meaning.proofs.Values.{some-is, typed-is, typed-of, then-is, means-small}
-use Rattle.meaning.proofs.Invariant.{Ends, Within, Inv, inv-step, Storable, Found}
+use Rattle.meaning.proofs.Invariant.{Ends, Inv, inv-step, Storable}
 use Rattle.meaning.proofs.Constants.{the, pattern, valued-same, signed-parts, stored-low, stored-high}
-use Rattle.meaning.proofs.Plans.{Covers, then-covers, Claim}
+use Rattle.meaning.proofs.Plans.{Covers, Claim}
 
 -- ---- types and values of nodes
 

@@ -1,0 +1,849 @@
+-- What is told of single bits of nodes is so, and with it the two folds of bitfields. Assumes nothing.
+use mathlib.Core.Path.{_≡_, refl, sym, ap, _∙_, subst}
+use mathlib.Core.Bool.{Bool, true, false, cond, not}
+use mathlib.Core.List.{List}
+use mathlib.Core.Option.{Option, none, some}
+use Prim.Native.Nat.{ℕ, zero, suc, min, max, _+_, _-_, _*_, _/_, _%_, _^_, _≤_, _<_}
+use native.Mathlib.Decide.{decLt}
+use native.Mathlib.Nat.{mod-lt, mod-eq-of-lt, zero-add, add-zero, one-mul, two-pow-succ, lt-of-le-of-lt}
+use native.Mathlib.Omega.{arith}
+use borrow.Author.Tests.{leb-true, leb-false, ltb-true, ltb-false, eqb-true, eqb-false, eq-eqb, ne-eqb}
+use lib.Bits.{bitAnd, bitOr, bitXor, or-shifted-r, or-zero-r, and-le-r, or-lt, and-mask}
+use lib.Dec.{eqb, ltb, leb}
+use lib.Pow.{pow-pos, pow-lt, not-mod}
+use Rattle.word.specs.Value.{only, provided}
+use Rattle.range.specs.Interval.{both, one}
+use Rattle.range.specs.declared.ScalarType.{ScalarType}
+use Rattle.range.specs.declared.ScalarType.the-variants as ty
+use Rattle.evaluate.specs.Evaluate.{fromBool, reduced, evaluateUnary, evaluateBinary}
+use Rattle.evaluate.specs.Operator.{typeWidth, binaryCode}
+use Rattle.evaluate.specs.U128 as u128
+use Rattle.evaluate.specs.declared.Unary.{Unary}
+use Rattle.evaluate.specs.declared.Unary.the-variants as un
+use Rattle.evaluate.specs.declared.Binary.{Binary}
+use Rattle.evaluate.specs.declared.Binary.the-variants as bi
+use Rattle.graph.specs.Layout.{countOf}
+use Rattle.graph.specs.Node as node
+use Rattle.graph.specs.Node.{Op, typeAt, operationAt, binaryOf}
+use Rattle.graph.specs.Insert.{start, literalOf, literal}
+use Rattle.fold.specs.Shape.{given, sameType, sameBinary, mask, Chain, chained, chainOf, chainAt}
+use Rattle.fold.specs.Bitfield.{Bit, known, source, BitStep, here, from, flipped, hasBit, above, maskedBit, unaryBit, bitOf, bitStep, turned, reached, DEPTH, bitAt, Field, noBits, power, sameBase, withBit, concatBit, fieldFrom, lowFits, bitfield, Mask, Update, updateOf, updateAt, Look, next, end, found, keeps, changed, lookUpdate, lookTyped, lookAt, firstFound, maskedComparison}
+use Rattle.native.specs.Typing.{concatTyped}
+use Rattle.bits.specs.Bit.{bit}
+use Rattle.bits.proofs.Bit.{bit-lt, bit-zero, bit-ext, bit-and, bit-or, bit-xor, bit-big, bit-shr, bit-mod, bit-mod-big, bit-high, bit-low-part}
+use Rattle.bits.proofs.Logic.{field-kept, kept-field}
+use Rattle.meaning.specs.Value.{Env, size, ofType, valued, andThen, binaryMeans, operationMeans, value}
+use Rattle.meaning.proofs.Values.{none-some, some-is, typed-is, typed-of, then-is, means-small}
+use Rattle.meaning.proofs.Invariant.{Typed, Inv, inv-step}
+
+-- ---- what is told of a bit
+
+-- of bit i of v
+abbrev pub Says : Env → List ℕ → ℕ → ℕ → Bit → Type 0
+Says ρ g v i (known b) = bit v i ≡ fromBool b
+Says ρ g v i (source m j) = (m < countOf g) × (u : ℕ) × (value ρ g m ≡ some u) × (bit v i ≡ bit u j)
+
+-- by one step
+abbrev StepSays : Env → List ℕ → ℕ → ℕ → BitStep → Type 0
+StepSays ρ g v i (here b) = Says ρ g v i b
+StepSays ρ g v i (from p j) = (p < countOf g) × (u : ℕ) × (value ρ g p ≡ some u) × (bit v i ≡ bit u j)
+StepSays ρ g v i (flipped p j) = (p < countOf g) × (u : ℕ) × (value ρ g p ≡ some u) × (bit v i ≡ 1 - bit u j)
+
+says-same : (ρ : Env) (g : List ℕ) (v u i j : ℕ) (b : Bit) → bit v i ≡ bit u j → Says ρ g u j b → Says ρ g v i b
+says-same ρ g v u i j (known b) e h = e ∙ h
+says-same ρ g v u i j (source m k) e h = (h .0, h .1, h .2, e ∙ h .3)
+
+-- ---- answers that are there
+
+none-has : {A : Type 0} {a : A} → none ≡ some a → ⊥
+none-has e = let z : _≡_ {A = ℕ} 0 1 = cc in omega arith
+
+some-has : {A : Type 0} {a b : A} → some a ≡ some b → a ≡ b
+some-has e = cc
+
+-- ---- bits of numbers
+
+set-is : (v i : ℕ) → fromBool (hasBit v i) ≡ bit v i
+unfolding bit
+set-is v i = go (hasBit v i) refl (mod-lt (v / 2 ^ i) (omega arith))
+  where
+    go : (b : Bool) → eqb (v / 2 ^ i % 2) 1 ≡ b → v / 2 ^ i % 2 < 2 → fromBool b ≡ v / 2 ^ i % 2
+    go true e l = sym (eqb-true (v / 2 ^ i % 2) 1 e)
+    go false e l = omega (arith, eqb-false (v / 2 ^ i % 2) 1 e)
+
+reduced-small : (t : ScalarType) (c : ℕ) → c < size t → reduced t c ≡ c
+reduced-small ty.Bool c l = refl
+reduced-small (ty.Bits w) c l = mod-eq-of-lt l
+reduced-small ty.Integer c l = refl
+
+valued-bit : (t : ScalarType) (z v i : ℕ) → valued t z ≡ some v → above t i ≡ false → bit v i ≡ bit z i
+valued-bit ty.Bool z v i e a = ap (λ (n : ℕ). bit n i) (typed-is ty.Bool z v e .0)
+valued-bit (ty.Bits w) z v i e a = ap (λ (n : ℕ). bit n i) (typed-is (ty.Bits w) (z % 2 ^ w) v e .0) ∙ bit-mod z w i (leb-false w i a)
+valued-bit ty.Integer z v i e a = ap (λ (n : ℕ). bit n i) (typed-is ty.Integer z v e .0)
+
+above-zero : (t : ScalarType) (v i : ℕ) → v < size t → above t i ≡ true → bit v i ≡ 0
+above-zero ty.Bool v i l e = let z : _≡_ {A = ℕ} 0 1 = cc in absurd (omega arith)
+above-zero (ty.Bits w) v i l e = bit-big v w i l (leb-true w i e)
+above-zero ty.Integer v i l e = let z : _≡_ {A = ℕ} 0 1 = cc in absurd (omega arith)
+
+past-zero : (t : ScalarType) (v i : ℕ) → typeWidth t ≤ 128 → v < size t → 128 ≤ i → bit v i ≡ 0
+past-zero ty.Bool v i q l e = bit-big v 1 i l (omega arith)
+past-zero (ty.Bits w) v i q l e = bit-big v w i l (omega arith)
+past-zero ty.Integer v i q l e = bit-big v 128 i l e
+
+-- ---- nodes with values
+
+module _ (ρ : Env) (g : List ℕ) (inv : Inv ρ g) where
+  -- what a node of this operation means
+  means-at : (n : ℕ) → n < countOf g → (v : ℕ) → value ρ g n ≡ some v → (o : Op) → operationAt g n ≡ o → operationMeans ρ (typeAt g n) o (value ρ g) ≡ some v
+  means-at n l v ev o e = sym (inv-step inv n l ∙ ap (λ (p : Op). operationMeans ρ (typeAt g n) p (value ρ g)) e) ∙ ev
+
+  below-at : (n : ℕ) → n < countOf g → (o : Op) → operationAt g n ≡ o → start o ≤ n
+  below-at n l o e = subst (λ (p : Op). start p ≤ n) e (inv .below n l)
+
+  typed-at : (n : ℕ) → n < countOf g → (o : Op) → operationAt g n ≡ o → Typed g (typeAt g n) o
+  typed-at n l o e = subst (λ (p : Op). Typed g (typeAt g n) p) e (inv .typed n l)
+
+  value-small : (n : ℕ) → n < countOf g → (v : ℕ) → value ρ g n ≡ some v → v < size (typeAt g n)
+  value-small n l v ev = means-small ρ (typeAt g n) (operationAt g n) (value ρ g) v (means-at n l v ev (operationAt g n) refl)
+
+  constant-value : (n c : ℕ) → n < countOf g → operationAt g n ≡ node.constant c → value ρ g n ≡ some c
+  constant-value n c l e =
+      let s : c < size (typeAt g n) = typed-at n l (node.constant c) e in
+      inv-step inv n l ∙ ap (λ (p : Op). operationMeans ρ (typeAt g n) p (value ρ g)) e ∙ ap (ofType (typeAt g n)) (reduced-small (typeAt g n) c s)
+      ∙ typed-of (typeAt g n) c s
+
+  pub literal-value : (n c : ℕ) → n < countOf g → literal g n ≡ some c → value ρ g n ≡ some c
+  unfolding literal
+  literal-value n c l e = go (operationAt g n) refl e
+    where
+      go : (o : Op) → operationAt g n ≡ o → literalOf o ≡ some c → value ρ g n ≡ some c
+      go (node.constant d) q e = constant-value n d l q ∙ e
+      go (node.input i) q e = absurd (none-some e)
+      go (node.refine i) q e = absurd (none-some e)
+      go (node.effect i) q e = absurd (none-some e)
+      go (node.slice i o w) q e = absurd (none-some e)
+      go (node.concat i j w) q e = absurd (none-some e)
+      go (node.unary u i) q e = absurd (none-some e)
+      go (node.binary b i j) q e = absurd (none-some e)
+
+-- the operands of a binary operation with a value
+record Operands (ρ : Env) (g : List ℕ) (t : ScalarType) (o : Binary) (i j v : ℕ) : Type 0 where
+  x : ℕ
+  y : ℕ
+  left : value ρ g i ≡ some x
+  right : value ρ g j ≡ some y
+  means : andThen (evaluateBinary o t x y) (ofType t) ≡ some v
+
+operands : (ρ : Env) (g : List ℕ) (t : ScalarType) (o : Binary) (i j v : ℕ) → binaryMeans t o (value ρ g i) (value ρ g j) ≡ some v → Operands ρ g t o i j v
+operands ρ g t o i j v e =
+    let p = then-is (value ρ g i) (λ x. andThen (value ρ g j) (λ y. andThen (evaluateBinary o t x y) (ofType t))) v e in
+    let q = then-is (value ρ g j) (λ y. andThen (evaluateBinary o t (p .0) y) (ofType t)) v (p .2) in
+    record { x = p .0; y = q .0; left = p .1; right = q .1; means = q .2 }
+
+and-means : (t : ScalarType) (x y v : ℕ) → andThen (evaluateBinary bi.And t x y) (ofType t) ≡ some v → valued t (bitAnd x y) ≡ some v
+unfolding evaluateBinary
+and-means t x y v e = e
+
+or-means : (t : ScalarType) (x y v : ℕ) → andThen (evaluateBinary bi.Or t x y) (ofType t) ≡ some v → valued t (bitOr x y) ≡ some v
+unfolding evaluateBinary
+or-means t x y v e = e
+
+xor-means : (t : ScalarType) (x y v : ℕ) → andThen (evaluateBinary bi.Xor t x y) (ofType t) ≡ some v → valued t (bitXor x y) ≡ some v
+unfolding evaluateBinary
+xor-means t x y v e = e
+
+truncated-means : (t : ScalarType) (w x v : ℕ) → andThen (evaluateUnary (un.Truncate w) x) (valued t) ≡ some v → valued t (x % 2 ^ w) ≡ some v
+unfolding evaluateUnary
+truncated-means t w x v e = e
+
+-- a concat's parts
+record Sides (a b : ScalarType) (v w : ℕ) : Type 0 where
+  narrow : v ≤ w
+  high : a ≡ ty.Bits (w - v)
+  low : b ≡ ty.Bits v
+
+both-is : (a b : Bool) → both a b ≡ true → (a ≡ true) × (b ≡ true)
+both-is true b e = (refl, e)
+both-is false b e = let z : _≡_ {A = ℕ} 0 1 = cc in absurd (omega arith)
+
+type-is : (a b : ScalarType) → sameType a b ≡ true → a ≡ b
+type-is ty.Bool ty.Bool e = refl
+type-is ty.Bool (ty.Bits v) e = let z : _≡_ {A = ℕ} 0 1 = cc in absurd (omega arith)
+type-is ty.Bool ty.Integer e = let z : _≡_ {A = ℕ} 0 1 = cc in absurd (omega arith)
+type-is (ty.Bits w) ty.Bool e = let z : _≡_ {A = ℕ} 0 1 = cc in absurd (omega arith)
+type-is (ty.Bits w) (ty.Bits v) e = ap ty.Bits (eqb-true w v e)
+type-is (ty.Bits w) ty.Integer e = let z : _≡_ {A = ℕ} 0 1 = cc in absurd (omega arith)
+type-is ty.Integer ty.Bool e = let z : _≡_ {A = ℕ} 0 1 = cc in absurd (omega arith)
+type-is ty.Integer (ty.Bits v) e = let z : _≡_ {A = ℕ} 0 1 = cc in absurd (omega arith)
+type-is ty.Integer ty.Integer e = refl
+
+sides : (a b : ScalarType) (v w : ℕ) → concatTyped a b v w ≡ true → Sides a b v w
+sides a b v w e =
+    let p = both-is (leb v w) (both (sameType a (ty.Bits (w - v))) (sameType b (ty.Bits v))) e in
+    let q = both-is (sameType a (ty.Bits (w - v))) (sameType b (ty.Bits v)) (p .1) in
+    record { narrow = leb-true v w (p .0); high = type-is a (ty.Bits (w - v)) (q .0); low = type-is b (ty.Bits v) (q .1) }
+
+-- ---- one step
+
+module _ (ρ : Env) (g : List ℕ) (inv : Inv ρ g) (n i v : ℕ) (l : n < countOf g) (ev : value ρ g n ≡ some v) (a : above (typeAt g n) i ≡ false) where
+  own : Says ρ g v i (source n i)
+  own = (l, v, ev, refl)
+
+  masked-says : (o : Binary) (p q c : ℕ) → operationAt g n ≡ node.binary o p q → literal g q ≡ some c
+      → StepSays ρ g v i (maskedBit o n (hasBit c i) p i)
+  masked-says bi.And p q c e lit =
+      let b = below-at ρ g inv n l (node.binary bi.And p q) e in
+      let s = operands ρ g (typeAt g n) bi.And p q v (means-at ρ g inv n l v ev (node.binary bi.And p q) e) in
+      let yc : s .y ≡ c = some-is (sym (s .right) ∙ literal-value ρ g inv q c (omega arith) lit) in
+      let f : bit v i ≡ min (bit (s .x) i) (bit (s .y) i) =
+      valued-bit (typeAt g n) (bitAnd (s .x) (s .y)) v i (and-means (typeAt g n) (s .x) (s .y) v (s .means)) a ∙ bit-and (s .x) (s .y) i in
+      go (s .x) (s .y) (s .left) yc f (hasBit c i) (set-is c i)
+    where
+      go : (x y : ℕ) → value ρ g p ≡ some x → y ≡ c → bit v i ≡ min (bit x i) (bit y i) → (h : Bool) → fromBool h ≡ bit c i
+          → StepSays ρ g v i (cond h (from p i) (here (known false)))
+      go x y ex ec f true h =
+          let b = below-at ρ g inv n l (node.binary bi.And p q) e in
+          (omega arith, x, ex, omega (arith, ap (λ (z : ℕ). bit z i) ec, bit-lt x i))
+      go x y ex ec f false h = omega (arith, ap (λ (z : ℕ). bit z i) ec)
+  masked-says bi.Or p q c e lit =
+      let b = below-at ρ g inv n l (node.binary bi.Or p q) e in
+      let s = operands ρ g (typeAt g n) bi.Or p q v (means-at ρ g inv n l v ev (node.binary bi.Or p q) e) in
+      let yc : s .y ≡ c = some-is (sym (s .right) ∙ literal-value ρ g inv q c (omega arith) lit) in
+      let f : bit v i ≡ max (bit (s .x) i) (bit (s .y) i) =
+      valued-bit (typeAt g n) (bitOr (s .x) (s .y)) v i (or-means (typeAt g n) (s .x) (s .y) v (s .means)) a ∙ bit-or (s .x) (s .y) i in
+      go (s .x) (s .y) (s .left) yc f (hasBit c i) (set-is c i)
+    where
+      go : (x y : ℕ) → value ρ g p ≡ some x → y ≡ c → bit v i ≡ max (bit x i) (bit y i) → (h : Bool) → fromBool h ≡ bit c i
+          → StepSays ρ g v i (cond h (here (known true)) (from p i))
+      go x y ex ec f true h = omega (arith, ap (λ (z : ℕ). bit z i) ec, bit-lt x i)
+      go x y ex ec f false h =
+          let b = below-at ρ g inv n l (node.binary bi.Or p q) e in
+          (omega arith, x, ex, omega (arith, ap (λ (z : ℕ). bit z i) ec, bit-lt x i))
+  masked-says bi.Xor p q c e lit =
+      let b = below-at ρ g inv n l (node.binary bi.Xor p q) e in
+      let s = operands ρ g (typeAt g n) bi.Xor p q v (means-at ρ g inv n l v ev (node.binary bi.Xor p q) e) in
+      let yc : s .y ≡ c = some-is (sym (s .right) ∙ literal-value ρ g inv q c (omega arith) lit) in
+      let f : bit v i ≡ (bit (s .x) i + bit (s .y) i) % 2 =
+      valued-bit (typeAt g n) (bitXor (s .x) (s .y)) v i (xor-means (typeAt g n) (s .x) (s .y) v (s .means)) a ∙ bit-xor (s .x) (s .y) i in
+      go (s .x) (s .y) (s .left) yc f (hasBit c i) (set-is c i)
+    where
+      go : (x y : ℕ) → value ρ g p ≡ some x → y ≡ c → bit v i ≡ (bit x i + bit y i) % 2 → (h : Bool) → fromBool h ≡ bit c i
+          → StepSays ρ g v i (cond h (flipped p i) (from p i))
+      go x y ex ec f true h =
+          let b = below-at ρ g inv n l (node.binary bi.Xor p q) e in
+          (omega arith, x, ex, omega (arith, ap (λ (z : ℕ). bit z i) ec, bit-lt x i))
+      go x y ex ec f false h =
+          let b = below-at ρ g inv n l (node.binary bi.Xor p q) e in
+          (omega arith, x, ex, omega (arith, ap (λ (z : ℕ). bit z i) ec, bit-lt x i))
+  masked-says bi.Add p q c e lit = own
+  masked-says bi.Sub p q c e lit = own
+  masked-says bi.Mul p q c e lit = own
+  masked-says bi.ShiftLeft p q c e lit = own
+  masked-says bi.ShiftRight p q c e lit = own
+  masked-says bi.ArithmeticShiftRight p q c e lit = own
+  masked-says bi.Equal p q c e lit = own
+  masked-says bi.NotEqual p q c e lit = own
+  masked-says bi.LessSigned p q c e lit = own
+  masked-says bi.LessUnsigned p q c e lit = own
+  masked-says bi.LessEqualSigned p q c e lit = own
+  masked-says bi.LessEqualUnsigned p q c e lit = own
+  masked-says bi.DivideSigned p q c e lit = own
+  masked-says bi.RemainderSigned p q c e lit = own
+  masked-says bi.DivideUnsigned p q c e lit = own
+  masked-says bi.RemainderUnsigned p q c e lit = own
+
+  unary-says : (o : Unary) (p : ℕ) → operationAt g n ≡ node.unary o p → StepSays ρ g v i (unaryBit o n p i)
+  unary-says un.BoolNot p e = own
+  unary-says un.BitNot p e = own
+  unary-says un.Negate p e = own
+  unary-says (un.Truncate w) p e =
+      let s = then-is (value ρ g p) (λ x. andThen (evaluateUnary (un.Truncate w) x) (valued (typeAt g n))) v (means-at ρ g inv n l v ev (node.unary (un.Truncate w) p) e) in
+      go (s .0) (s .1) (valued-bit (typeAt g n) (s .0 % 2 ^ w) v i (truncated-means (typeAt g n) w (s .0) v (s .2)) a) (ltb i w) refl
+    where
+      go : (x : ℕ) → value ρ g p ≡ some x → bit v i ≡ bit (x % 2 ^ w) i → (t : Bool) → ltb i w ≡ t → StepSays ρ g v i (cond t (from p i) (here (known false)))
+      go x ex f true q =
+          let b = below-at ρ g inv n l (node.unary (un.Truncate w) p) e in
+          (omega arith, x, ex, f ∙ bit-mod x w i (ltb-true i w q))
+      go x ex f false q = f ∙ bit-mod-big x w i (ltb-false i w q)
+  unary-says (un.SignExtend w) p e = own
+  unary-says (un.LeadingZeros w) p e = own
+  unary-says (un.TrailingZeros w) p e = own
+
+  op-says : (o : Op) → operationAt g n ≡ o → StepSays ρ g v i (bitOf g n i o)
+  op-says (node.constant c) e = ap (λ (x : ℕ). bit x i) (some-is (sym ev ∙ constant-value ρ g inv n c l e)) ∙ sym (set-is c i)
+  op-says (node.input k) e = own
+  op-says (node.refine p) e =
+      let b = below-at ρ g inv n l (node.refine p) e in
+      let s = then-is (value ρ g p) (ofType (typeAt g n)) v (means-at ρ g inv n l v ev (node.refine p) e) in
+      (omega arith, s .0, s .1, ap (λ (x : ℕ). bit x i) (typed-is (typeAt g n) (s .0) v (s .2) .0))
+  op-says (node.effect k) e = own
+  op-says (node.slice p o w) e =
+      let s = then-is (value ρ g p) (λ x. valued (typeAt g n) (x / 2 ^ o)) v (means-at ρ g inv n l v ev (node.slice p o w) e) in
+      go (s .0) (s .1) (valued-bit (typeAt g n) (s .0 / 2 ^ o) v i (s .2) a ∙ bit-shr (s .0) o i) (leb w i) refl
+    where
+      go : (x : ℕ) → value ρ g p ≡ some x → bit v i ≡ bit x (o + i) → (t : Bool) → leb w i ≡ t → StepSays ρ g v i (cond t (here (known false)) (from p (o + i)))
+      go x ex f true q =
+          let t : typeAt g n ≡ ty.Bits w = typed-at ρ g inv n l (node.slice p o w) e in
+          bit-big v w i (subst (λ (k : ScalarType). v < size k) t (value-small ρ g inv n l v ev)) (leb-true w i q)
+      go x ex f false q =
+          let b = below-at ρ g inv n l (node.slice p o w) e in
+          (omega arith, x, ex, f)
+  op-says (node.concat h k w) e =
+      let s = then-is (value ρ g h) (λ x. andThen (value ρ g k) (λ y. valued (typeAt g n) (x * 2 ^ w + y))) v (means-at ρ g inv n l v ev (node.concat h k w) e) in
+      let r = then-is (value ρ g k) (λ y. valued (typeAt g n) (s .0 * 2 ^ w + y)) v (s .2) in
+      let t = typed-at ρ g inv n l (node.concat h k w) e in
+      let d = sides (typeAt g h) (typeAt g k) w (t .0) (t .2) in
+      let b = below-at ρ g inv n l (node.concat h k w) e in
+      let small : r .0 < 2 ^ w = subst (λ (c : ScalarType). r .0 < size c) (d .low) (value-small ρ g inv k (omega arith) (r .0) (r .1)) in
+      go (s .0) (r .0) (s .1) (r .1) small (valued-bit (typeAt g n) (s .0 * 2 ^ w + r .0) v i (r .2) a) (ltb i w) refl
+    where
+      go : (x y : ℕ) → value ρ g h ≡ some x → value ρ g k ≡ some y → y < 2 ^ w → bit v i ≡ bit (x * 2 ^ w + y) i → (t : Bool) → ltb i w ≡ t
+          → StepSays ρ g v i (cond t (from k i) (from h (i - w)))
+      go x y ex ey small f true q =
+          let b = below-at ρ g inv n l (node.concat h k w) e in
+          (omega arith, y, ey, f ∙ bit-low-part x y w i small (ltb-true i w q))
+      go x y ex ey small f false q =
+          let b = below-at ρ g inv n l (node.concat h k w) e in
+          let m : i ≡ w + (i - w) = omega (arith, ltb-false i w q) in
+          (omega arith, x, ex, f ∙ ap (bit (x * 2 ^ w + y)) m ∙ bit-high x y w (i - w) small)
+  op-says (node.unary o p) e = unary-says o p e
+  op-says (node.binary o p q) e = go (literal g q) refl
+    where
+      go : (x : Option ℕ) → literal g q ≡ x → StepSays ρ g v i (given x (λ c. maskedBit o n (hasBit c i) p i) (here (source n i)))
+      go none d = own
+      go (some c) d = masked-says o p q c e d
+
+-- ---- the walk
+
+module _ (ρ : Env) (g : List ℕ) (inv : Inv ρ g) where
+  step-says : (n i v : ℕ) → n < countOf g → value ρ g n ≡ some v → StepSays ρ g v i (bitStep g n i)
+  unfolding bitStep
+  step-says n i v l ev = go (leb 128 i) refl (above (typeAt g n) i) refl
+    where
+      go : (x : Bool) → leb 128 i ≡ x → (y : Bool) → above (typeAt g n) i ≡ y → StepSays ρ g v i (cond (one x y) (here (known false)) (bitOf g n i (operationAt g n)))
+      go true p y q = past-zero (typeAt g n) v i (inv .width n l) (value-small ρ g inv n l v ev) (leb-true 128 i p)
+      go false p true q = above-zero (typeAt g n) v i (value-small ρ g inv n l v ev) q
+      go false p false q = op-says ρ g inv n i v l ev q (operationAt g n) refl
+
+  turned-says : (v u i j : ℕ) (o : Option Bit) → bit v i ≡ 1 - bit u j → ((b : Bit) → o ≡ some b → Says ρ g u j b) → (b : Bit) → turned o ≡ some b
+      → Says ρ g v i b
+  turned-says v u i j none f h b e = absurd (none-has e)
+  turned-says v u i j (some (known true)) f h b e = subst (λ (c : Bit). Says ρ g v i c) (some-has e) (omega (arith, h (known true) refl))
+  turned-says v u i j (some (known false)) f h b e = subst (λ (c : Bit). Says ρ g v i c) (some-has e) (omega (arith, h (known false) refl))
+  turned-says v u i j (some (source m k)) f h b e = absurd (none-has e)
+
+  reached-says : (v i : ℕ) (s : BitStep) (r : ℕ → ℕ → Option Bit) → StepSays ρ g v i s
+      → ((n j u : ℕ) → n < countOf g → value ρ g n ≡ some u → (b : Bit) → r n j ≡ some b → Says ρ g u j b)
+      → (b : Bit) → reached s r ≡ some b → Says ρ g v i b
+  reached-says v i (here c) r h ih b e = subst (λ (c : Bit). Says ρ g v i c) (some-has e) h
+  reached-says v i (from p j) r h ih b e = says-same ρ g v (h .1) i j b (h .3) (ih p j (h .1) (h .0) (h .2) b e)
+  reached-says v i (flipped p j) r h ih b e = turned-says v (h .1) i j (r p j) (h .3) (λ c q. ih p j (h .1) (h .0) (h .2) c q) b e
+
+  -- what the walk tells is so
+  pub bit-sound : (k n i v : ℕ) → n < countOf g → value ρ g n ≡ some v → (b : Bit) → bitAt g k n i ≡ some b → Says ρ g v i b
+  unfolding bitAt
+  bit-sound zero n i v l ev b e = absurd (none-has e)
+  bit-sound (suc k) n i v l ev b e = reached-says v i (bitStep g n i) (bitAt g k) (step-says n i v l ev) (λ m j u. bit-sound k m j u) b e
+
+-- ---- the bits of a concat
+
+power-is : (i : ℕ) → i < 128 → power i ≡ 1 * 2 ^ i
+power-is i l = mod-eq-of-lt (pow-lt l) ∙ sym (one-mul (2 ^ i))
+
+with-power : (x i : ℕ) → i < 128 → x < 2 ^ i → bitOr x (power i) ≡ 1 * 2 ^ i + x
+with-power x i l q = ap (bitOr x) (power-is i l) ∙ or-shifted-r 1 i x q
+
+set-below : (x i j : ℕ) → x < 2 ^ i → j < i → bit (1 * 2 ^ i + x) j ≡ bit x j
+set-below x i j l q = bit-low-part 1 x i j l q
+
+set-here : (x i : ℕ) → x < 2 ^ i → bit (1 * 2 ^ i + x) i ≡ 1
+unfolding bit
+set-here x i l = ap (bit (1 * 2 ^ i + x)) (sym (add-zero i)) ∙ bit-high 1 x i 0 l
+
+-- a statement of the places below i and of i
+one-more : (i j : ℕ) → j < suc i → (P : ℕ → Type 0) → (j < i → P j) → P i → P j
+one-more i j l P a b = go (decLt j i)
+  where
+    go : Dec (j < i) → P j
+    go (yes q) = a q
+    go (no q) = let e : i ≡ j = omega arith in subst P e b
+
+-- the value of the node that bits come from, if there is one yet
+abbrev From : Env → List ℕ → Option ℕ → ℕ → Type 0
+From ρ g none u = Unit {0}
+From ρ g (some m) u = (m < countOf g) × (value ρ g m ≡ some u)
+
+-- the i lowest bits of x
+record Parts (ρ : Env) (g : List ℕ) (x i : ℕ) (o : Option ℕ) (keep lit : ℕ) : Type 0 where
+  base : ℕ
+  origin : From ρ g o base
+  bare : o ≡ none → keep ≡ 0
+  small : (keep < 2 ^ i) × (lit < 2 ^ i)
+  places : (j : ℕ) → j < i → bit x j ≡ max (min (bit base j) (bit keep j)) (bit lit j)
+
+-- what a whole field tells of x
+abbrev pub Gathers : Env → List ℕ → ℕ → Option ℕ → ℕ → ℕ → Type 0
+Gathers ρ g x none keep lit = x ≡ lit
+Gathers ρ g x (some m) keep lit = (m < countOf g) × (u : ℕ) × (value ρ g m ≡ some u) × (x ≡ bitOr (bitAnd u keep) lit)
+
+pub record FieldSays (ρ : Env) (g : List ℕ) (x w : ℕ) (f : Field) : Type 0 where
+  pub keep : f .keep < 2 ^ w
+  pub literal : f .literal < 2 ^ w
+  pub says : Gathers ρ g x (f .base) (f .keep) (f .literal)
+
+module _ (ρ : Env) (g : List ℕ) (x i : ℕ) where
+  -- a bit of a node: of the one so far, or of the first
+  kept-place : (m u keep lit : ℕ) (o : Option ℕ) → Parts ρ g x i o keep lit → m < countOf g → value ρ g m ≡ some u → bit x i ≡ bit u i
+      → sameBase o m ≡ true → Parts ρ g x (suc i) (some m) (1 * 2 ^ i + keep) lit
+  kept-place m u keep lit none h lm eu b q =
+      let z : keep ≡ 0 = h .bare refl in
+      let s = h .small in
+      let lk = s .0 in
+      let ll = s .1 in
+      record {
+        base = u;
+        origin = (lm, eu);
+        bare = λ e. absurd (none-has (sym e));
+        small = (omega (arith, two-pow-succ i), omega (arith, two-pow-succ i));
+        places = λ j l.
+            one-more i j l (λ k. bit x k ≡ max (min (bit u k) (bit (1 * 2 ^ i + keep) k)) (bit lit k))
+            (λ p. omega (arith, h .places j p, set-below keep i j lk p, ap (λ (y : ℕ). bit y j) z, bit-zero j))
+            (omega (arith, b, set-here keep i lk, bit-big lit i i ll (omega arith), bit-lt u i));
+      }
+  kept-place m u keep lit (some c) h lm eu b q =
+      let e : c ≡ m = eqb-true c m q in
+      let ub : h .base ≡ u = some-is (sym (h .origin .1) ∙ ap (value ρ g) e ∙ eu) in
+      let s = h .small in
+      let lk = s .0 in
+      let ll = s .1 in
+      record {
+        base = u;
+        origin = (lm, eu);
+        bare = λ e. absurd (none-has (sym e));
+        small = (omega (arith, two-pow-succ i), omega (arith, two-pow-succ i));
+        places = λ j l.
+            one-more i j l (λ k. bit x k ≡ max (min (bit u k) (bit (1 * 2 ^ i + keep) k)) (bit lit k))
+            (λ p. omega (arith, h .places j p, set-below keep i j lk p, ap (λ (y : ℕ). bit y j) ub))
+            (omega (arith, b, set-here keep i lk, bit-big lit i i ll (omega arith), bit-lt u i));
+      }
+
+  set-place : (o : Option ℕ) (keep lit : ℕ) → Parts ρ g x i o keep lit → bit x i ≡ 1 → Parts ρ g x (suc i) o keep (1 * 2 ^ i + lit)
+  set-place o keep lit h b =
+      let s = h .small in
+      let lk = s .0 in
+      let ll = s .1 in
+      record {
+        base = h .base;
+        origin = h .origin;
+        bare = h .bare;
+        small = (omega (arith, two-pow-succ i), omega (arith, two-pow-succ i));
+        places = λ j l.
+            one-more i j l (λ k. bit x k ≡ max (min (bit (h .base) k) (bit keep k)) (bit (1 * 2 ^ i + lit) k))
+            (λ p. omega (arith, h .places j p, set-below lit i j ll p))
+            (omega (arith, b, set-here lit i ll, bit-lt (h .base) i, bit-lt keep i));
+      }
+
+  clear-place : (o : Option ℕ) (keep lit : ℕ) → Parts ρ g x i o keep lit → bit x i ≡ 0 → Parts ρ g x (suc i) o keep lit
+  clear-place o keep lit h b =
+      let s = h .small in
+      let lk = s .0 in
+      let ll = s .1 in
+      record {
+        base = h .base;
+        origin = h .origin;
+        bare = h .bare;
+        small = (omega (arith, two-pow-succ i), omega (arith, two-pow-succ i));
+        places = λ j l.
+            one-more i j l (λ k. bit x k ≡ max (min (bit (h .base) k) (bit keep k)) (bit lit k)) (λ p. h .places j p)
+            (omega (arith, b, bit-big lit i i ll (omega arith), bit-big keep i i lk (omega arith)));
+      }
+
+  with-bit : (f r : Field) (b : Bit) → i < 128 → Parts ρ g x i (f .base) (f .keep) (f .literal) → Says ρ g x i b → withBit f i b ≡ some r
+      → Parts ρ g x (suc i) (r .base) (r .keep) (r .literal)
+  with-bit f r (known true) l h t e =
+      subst (λ (k : Field). Parts ρ g x (suc i) (k .base) (k .keep) (k .literal)) (some-has e)
+      (rw (with-power (f .literal) i l (h .small .1)) (set-place (f .base) (f .keep) (f .literal) h t))
+  with-bit f r (known false) l h t e =
+      subst (λ (k : Field). Parts ρ g x (suc i) (k .base) (k .keep) (k .literal)) (some-has e) (clear-place (f .base) (f .keep) (f .literal) h t)
+  with-bit f r (source m j) l h t e = go (eqb j i) refl (sameBase (f .base) m) refl e
+    where
+      go : (a : Bool) → eqb j i ≡ a → (b : Bool) → sameBase (f .base) m ≡ b
+          → only (both a b) (record { base = some m; keep = bitOr (f .keep) (power i); literal = f .literal }) ≡ some r
+          → Parts ρ g x (suc i) (r .base) (r .keep) (r .literal)
+      go false p b q e = absurd (none-has e)
+      go true p false q e = absurd (none-has e)
+      go true p true q e =
+          subst (λ (k : Field). Parts ρ g x (suc i) (k .base) (k .keep) (k .literal)) (some-has e)
+          (rw (with-power (f .keep) i l (h .small .0))
+          (kept-place m (t .1) (f .keep) (f .literal) (f .base) h (t .0) (t .2) (t .3 ∙ ap (bit (t .1)) (eqb-true j i p)) q))
+
+field-from : (ρ : Env) (g : List ℕ) (x high low v : ℕ) → ((i : ℕ) (b : Bit) → concatBit g high low v i ≡ some b → Says ρ g x i b)
+    → (k i : ℕ) (f r : Field) → i + k ≤ 128 → Parts ρ g x i (f .base) (f .keep) (f .literal) → fieldFrom g high low v i k f ≡ some r
+    → Parts ρ g x (i + k) (r .base) (r .keep) (r .literal)
+field-from ρ g x high low v says zero i f r l h e =
+    rw (add-zero i) (subst (λ (k : Field). Parts ρ g x i (k .base) (k .keep) (k .literal)) (some-has e) h)
+field-from ρ g x high low v says (suc k) i f r l h e =
+    go (concatBit g high low v i) refl e (λ d q w. field-from ρ g x high low v says k (suc i) d r (omega arith) q w)
+  where
+    at : (d : Field) → (Parts ρ g x (suc i) (d .base) (d .keep) (d .literal) → fieldFrom g high low v (suc i) k d ≡ some r → Parts ρ g x (suc i + k) (r .base) (r .keep) (r .literal))
+        → Parts ρ g x (suc i) (d .base) (d .keep) (d .literal) → fieldFrom g high low v (suc i) k d ≡ some r
+        → Parts ρ g x (i + suc k) (r .base) (r .keep) (r .literal)
+    at d ih q w = let s : suc i + k ≡ i + suc k = omega arith in subst (λ (n : ℕ). Parts ρ g x n (r .base) (r .keep) (r .literal)) s (ih q w)
+
+    go : (o : Option Bit) → concatBit g high low v i ≡ o → given o (λ b. given (withBit f i b) (λ d. fieldFrom g high low v (suc i) k d) none) none ≡ some r
+        → ((d : Field) → Parts ρ g x (suc i) (d .base) (d .keep) (d .literal) → fieldFrom g high low v (suc i) k d ≡ some r → Parts ρ g x (suc i + k) (r .base) (r .keep) (r .literal))
+        → Parts ρ g x (i + suc k) (r .base) (r .keep) (r .literal)
+    go none q e ih = absurd (none-has e)
+    go (some b) q e ih = on (withBit f i b) refl e
+      where
+        on : (o : Option Field) → withBit f i b ≡ o → given o (λ d. fieldFrom g high low v (suc i) k d) none ≡ some r
+            → Parts ρ g x (i + suc k) (r .base) (r .keep) (r .literal)
+        on none w e = absurd (none-has e)
+        on (some d) w e = at d (ih d) (with-bit ρ g x i f d b (omega arith) h (says i b q) w) e
+
+gathers : (ρ : Env) (g : List ℕ) (x w : ℕ) (o : Option ℕ) (keep lit : ℕ) → Parts ρ g x w o keep lit → ((i : ℕ) → w ≤ i → bit x i ≡ 0) → Gathers ρ g x o keep lit
+gathers ρ g x w none keep lit h past = bit-ext x lit (λ i. go i (decLt i w))
+  where
+    go : (i : ℕ) → Dec (i < w) → bit x i ≡ bit lit i
+    go i (yes p) = omega (arith, h .places i p, ap (λ (y : ℕ). bit y i) (h .bare refl), bit-zero i, bit-lt (h .base) i)
+    go i (no p) = past i (omega arith) ∙ sym (bit-big lit w i (h .small .1) (omega arith))
+gathers ρ g x w (some m) keep lit h past =
+    (h .origin .0, h .base, h .origin .1, bit-ext x (bitOr (bitAnd (h .base) keep) lit) (λ i. go i (decLt i w)))
+  where
+    go : (i : ℕ) → Dec (i < w) → bit x i ≡ bit (bitOr (bitAnd (h .base) keep) lit) i
+    go i (yes p) = h .places i p ∙ sym (bit-or (bitAnd (h .base) keep) lit i ∙ ap (λ (y : ℕ). max y (bit lit i)) (bit-and (h .base) keep i))
+    go i (no p) =
+        omega (
+          arith,
+          bit-or (bitAnd (h .base) keep) lit i ∙ ap (λ (y : ℕ). max y (bit lit i)) (bit-and (h .base) keep i),
+          past i (omega arith),
+          bit-big keep w i (h .small .0) (omega arith),
+          bit-big lit w i (h .small .1) (omega arith),
+        )
+
+provided-is : {A : Type 0} {a : A} (t : Bool) (o : Option A) → provided t o ≡ some a → o ≡ some a
+provided-is true o e = e
+provided-is false o e = absurd (none-has e)
+
+module _ (ρ : Env) (g : List ℕ) (inv : Inv ρ g) (high low v w a b : ℕ) (lh : high < countOf g) (ll : low < countOf g)
+    (eh : value ρ g high ≡ some a) (el : value ρ g low ≡ some b) (typed : concatTyped (typeAt g high) (typeAt g low) v w ≡ true) (lw : w ≤ 128)
+  where
+    parted : Sides (typeAt g high) (typeAt g low) v w
+    parted = sides (typeAt g high) (typeAt g low) v w typed
+
+    high-small : a < 2 ^ (w - v)
+    high-small = subst (λ (t : ScalarType). a < size t) (parted .high) (value-small ρ g inv high lh a eh)
+
+    low-small : b < 2 ^ v
+    low-small = subst (λ (t : ScalarType). b < size t) (parted .low) (value-small ρ g inv low ll b el)
+
+    upper : (i : ℕ) → v ≤ i → bit (a * 2 ^ v + b) i ≡ bit a (i - v)
+    upper i l = let e : i ≡ v + (i - v) = omega arith in ap (bit (a * 2 ^ v + b)) e ∙ bit-high a b v (i - v) low-small
+
+    past : (i : ℕ) → w ≤ i → bit (a * 2 ^ v + b) i ≡ 0
+    past i l = let q = parted .narrow in upper i (omega arith) ∙ bit-big a (w - v) (i - v) high-small (omega arith)
+
+    concat-says : (i : ℕ) (c : Bit) → concatBit g high low v i ≡ some c → Says ρ g (a * 2 ^ v + b) i c
+    concat-says i c e = go (ltb i v) refl e
+      where
+        go : (t : Bool) → ltb i v ≡ t → cond t (bitAt g DEPTH low i) (bitAt g DEPTH high (i - v)) ≡ some c → Says ρ g (a * 2 ^ v + b) i c
+        go true q e =
+            says-same ρ g (a * 2 ^ v + b) b i i c (bit-low-part a b v i low-small (ltb-true i v q)) (bit-sound ρ g inv DEPTH low i b ll el c e)
+        go false q e =
+            says-same ρ g (a * 2 ^ v + b) a i (i - v) c (upper i (ltb-false i v q)) (bit-sound ρ g inv DEPTH high (i - v) a lh eh c e)
+
+    -- a concat gathered as bits of one node and of a literal
+    pub field-sound : (f : Field) → bitfield g high low v w ≡ some f → FieldSays ρ g (a * 2 ^ v + b) w f
+    unfolding bitfield
+    field-sound f e =
+        let none-yet : Parts ρ g (a * 2 ^ v + b) 0 none 0 0 =
+        record { base = 0; origin = tt; bare = λ q. refl; small = (omega arith, omega arith); places = λ j q. absurd (omega arith) } in
+        let p : Parts ρ g (a * 2 ^ v + b) w (f .base) (f .keep) (f .literal) =
+        rw (← zero-add w)
+        (field-from ρ g (a * 2 ^ v + b) high low v concat-says w 0 noBits f (omega arith) none-yet
+        (provided-is (lowFits g low v) (fieldFrom g high low v 0 w noBits) e)) in
+        record { keep = p .small .0; literal = p .small .1; says = gathers ρ g (a * 2 ^ v + b) w (f .base) (f .keep) (f .literal) p past }
+
+-- ---- a base compared with itself under a mask
+
+code-back : (b : Binary) → binaryOf (binaryCode b) ≡ b
+code-back bi.Add = refl
+code-back bi.Sub = refl
+code-back bi.Mul = refl
+code-back bi.And = refl
+code-back bi.Or = refl
+code-back bi.Xor = refl
+code-back bi.ShiftLeft = refl
+code-back bi.ShiftRight = refl
+code-back bi.ArithmeticShiftRight = refl
+code-back bi.Equal = refl
+code-back bi.NotEqual = refl
+code-back bi.LessSigned = refl
+code-back bi.LessUnsigned = refl
+code-back bi.LessEqualSigned = refl
+code-back bi.LessEqualUnsigned = refl
+code-back bi.DivideSigned = refl
+code-back bi.RemainderSigned = refl
+code-back bi.DivideUnsigned = refl
+code-back bi.RemainderUnsigned = refl
+
+pub binary-is : (a b : Binary) → sameBinary a b ≡ true → a ≡ b
+binary-is a b e = sym (code-back a) ∙ ap binaryOf (eqb-true (binaryCode a) (binaryCode b) e) ∙ code-back b
+
+mask-is : (w k : ℕ) → w ≤ 128 → k < 2 ^ w → bitAnd (u128.not k) (mask w) ≡ 2 ^ w - 1 - k
+mask-is w k l q =
+    let m : min w 128 ≡ w = omega arith in
+    let n : 128 - w + w ≡ 128 = omega arith in
+    ap (λ (i : ℕ). bitAnd (u128.not k) (2 ^ i - 1)) m ∙ and-mask (u128.not k) w ∙ sym (ap (λ (i : ℕ). (2 ^ i - 1 - k) % 2 ^ w) n) ∙ not-mod (128 - w) w q
+
+not-small : (n k : ℕ) → 0 < n → n - 1 - k < n
+not-small n k l = omega arith
+
+eqb-sym : (x y : ℕ) → eqb x y ≡ eqb y x
+eqb-sym x y = go (eqb y x) refl
+  where
+    go : (b : Bool) → eqb y x ≡ b → eqb x y ≡ b
+    go true e = eq-eqb x y (sym (eqb-true y x e))
+    go false e = ne-eqb x y (λ q. eqb-false y x e (sym q))
+
+-- comparing with the update, and comparing what it replaces
+same-test : (w x keep lit : ℕ) → x < 2 ^ w → keep < 2 ^ w → lit < 2 ^ w → bitAnd lit keep ≡ 0
+    → eqb x (bitOr (bitAnd x keep) lit) ≡ eqb (bitAnd x (2 ^ w - 1 - keep)) lit
+same-test w x keep lit lx lk ll apart = go (eqb (bitAnd x (2 ^ w - 1 - keep)) lit) refl
+  where
+    go : (b : Bool) → eqb (bitAnd x (2 ^ w - 1 - keep)) lit ≡ b → eqb x (bitOr (bitAnd x keep) lit) ≡ b
+    go true e = eq-eqb x (bitOr (bitAnd x keep) lit) (kept-field w x keep lit lx lk ll apart (eqb-true (bitAnd x (2 ^ w - 1 - keep)) lit e))
+    go false e =
+        ne-eqb x (bitOr (bitAnd x keep) lit) (λ q. eqb-false (bitAnd x (2 ^ w - 1 - keep)) lit e (field-kept w x keep lit lx lk ll apart q))
+
+-- y is x And c
+record AndSays (x y c w : ℕ) : Type 0 where
+  means : y ≡ bitAnd x c
+  small : c < 2 ^ w
+
+-- y is the value of i Or c
+record OrSays (ρ : Env) (g : List ℕ) (i y c w : ℕ) : Type 0 where
+  left : ℕ
+  here : i < countOf g
+  type : typeAt g i ≡ ty.Bits w
+  has : value ρ g i ≡ some left
+  means : y ≡ bitOr left c
+  small : c < 2 ^ w
+
+module _ (ρ : Env) (g : List ℕ) (inv : Inv ρ g) where
+  -- a constant operand of a Bits(w) operation
+  literal-small : (j c w : ℕ) → j < countOf g → typeAt g j ≡ ty.Bits w → literal g j ≡ some c → c < 2 ^ w
+  literal-small j c w l t e = subst (λ (k : ScalarType). c < size k) t (value-small ρ g inv j l c (literal-value ρ g inv j c l e))
+
+  valued-is : (t : ScalarType) (w z v : ℕ) → t ≡ ty.Bits w → z < 2 ^ w → valued t z ≡ some v → v ≡ z
+  valued-is t w z v q l e =
+      let f : valued (ty.Bits w) z ≡ some v = subst (λ (k : ScalarType). valued k z ≡ some v) q e in
+      typed-is (ty.Bits w) (z % 2 ^ w) v f .0 ∙ mod-eq-of-lt l
+
+  and-value : (n i j c w x y : ℕ) → n < countOf g → operationAt g n ≡ node.binary bi.And i j → literal g j ≡ some c → typeAt g n ≡ ty.Bits w
+      → value ρ g i ≡ some x → value ρ g n ≡ some y → AndSays x y c w
+  and-value n i j c w x y l e lit t ex ey =
+      let b = below-at ρ g inv n l (node.binary bi.And i j) e in
+      let q = both-is (sameType (typeAt g i) (typeAt g n)) (sameType (typeAt g j) (typeAt g n)) (typed-at ρ g inv n l (node.binary bi.And i j) e) in
+      let small : c < 2 ^ w = literal-small j c w (omega arith) (type-is (typeAt g j) (typeAt g n) (q .1) ∙ t) lit in
+      let s = operands ρ g (typeAt g n) bi.And i j y (means-at ρ g inv n l y ey (node.binary bi.And i j) e) in
+      let xs : s .x ≡ x = some-is (sym (s .left) ∙ ex) in
+      let ys : s .y ≡ c = some-is (sym (s .right) ∙ literal-value ρ g inv j c (omega arith) lit) in
+      let m : valued (typeAt g n) (bitAnd x c) ≡ some y = rw (← xs, ← ys) (and-means (typeAt g n) (s .x) (s .y) y (s .means)) in
+      record { means = valued-is (typeAt g n) w (bitAnd x c) y t (lt-of-le-of-lt (and-le-r x c) small) m; small = small }
+
+  or-value : (n i j c w y : ℕ) → n < countOf g → operationAt g n ≡ node.binary bi.Or i j → literal g j ≡ some c → typeAt g n ≡ ty.Bits w
+      → value ρ g n ≡ some y → OrSays ρ g i y c w
+  or-value n i j c w y l e lit t ey =
+      let b = below-at ρ g inv n l (node.binary bi.Or i j) e in
+      let q = both-is (sameType (typeAt g i) (typeAt g n)) (sameType (typeAt g j) (typeAt g n)) (typed-at ρ g inv n l (node.binary bi.Or i j) e) in
+      let ti : typeAt g i ≡ ty.Bits w = type-is (typeAt g i) (typeAt g n) (q .0) ∙ t in
+      let small : c < 2 ^ w = literal-small j c w (omega arith) (type-is (typeAt g j) (typeAt g n) (q .1) ∙ t) lit in
+      let s = operands ρ g (typeAt g n) bi.Or i j y (means-at ρ g inv n l y ey (node.binary bi.Or i j) e) in
+      let ys : s .y ≡ c = some-is (sym (s .right) ∙ literal-value ρ g inv j c (omega arith) lit) in
+      let ls : s .x < 2 ^ w = subst (λ (k : ScalarType). s .x < size k) ti (value-small ρ g inv i (omega arith) (s .x) (s .left)) in
+      let m : valued (typeAt g n) (bitOr (s .x) c) ≡ some y = rw (← ys) (or-means (typeAt g n) (s .x) (s .y) y (s .means)) in
+      record {
+        left = s .x;
+        here = omega arith;
+        type = ti;
+        has = s .left;
+        means = valued-is (typeAt g n) w (bitOr (s .x) c) y t (or-lt w (s .x) c ls small) m;
+        small = small;
+      }
+
+  chain-value : (n w x y : ℕ) (c : Chain) → n < countOf g → typeAt g n ≡ ty.Bits w → chainAt g n ≡ some c → c .op ≡ bi.And → value ρ g (c .base) ≡ some x
+      → value ρ g n ≡ some y → AndSays x y (c .value) w
+  unfolding chainAt
+  chain-value n w x y c l t e o ex ey = go (operationAt g n) refl e
+    where
+      go : (p : Op) → operationAt g n ≡ p → chainOf g p ≡ some c → AndSays x y (c .value) w
+      go (node.constant k) q e = absurd (none-has e)
+      go (node.input i) q e = absurd (none-has e)
+      go (node.refine i) q e = absurd (none-has e)
+      go (node.effect i) q e = absurd (none-has e)
+      go (node.slice i s v) q e = absurd (none-has e)
+      go (node.concat i j v) q e = absurd (none-has e)
+      go (node.unary u i) q e = absurd (none-has e)
+      go (node.binary b i j) q e = on (literal g j) refl e
+        where
+          on : (k : Option ℕ) → literal g j ≡ k → chained b i k ≡ some c → AndSays x y (c .value) w
+          on none d e = absurd (none-has e)
+          on (some k) d e =
+              let f : record { op = b; base = i; value = k } ≡ c = some-has e in
+              let fo : b ≡ bi.And = ap (λ (h : Chain). h .op) f ∙ o in
+              let fb : i ≡ c .base = ap (λ (h : Chain). h .base) f in
+              let fv : k ≡ c .value = ap (λ (h : Chain). h .value) f in
+              rw (← fv) (and-value n i j k w x y l (q ∙ ap (λ (h : Binary). node.binary h i j) fo) d t (ap (value ρ g) fb ∙ ex) ey)
+
+-- y is x with what is not kept replaced
+record UpdateSays (x y kept lit w : ℕ) : Type 0 where
+  means : y ≡ bitOr (bitAnd x kept) lit
+  keep : kept < 2 ^ w
+  literal : lit < 2 ^ w
+
+-- what a masked comparison tells of x and y
+pub record MaskSays (ρ : Env) (g : List ℕ) (o : Binary) (x y : ℕ) (m : Mask) : Type 0 where
+  pub width : ℕ
+  pub type : m .type ≡ ty.Bits width
+  pub here : m .base < countOf g
+  pub typed : typeAt g (m .base) ≡ m .type
+  pub mask : m .mask < 2 ^ width
+  pub literal : m .literal < 2 ^ width
+  pub result : m .result ≡ ty.Bool
+  pub op : m .op ≡ o
+  pub base : ℕ
+  pub has : value ρ g (m .base) ≡ some base
+  pub means : eqb x y ≡ eqb (bitAnd base (m .mask)) (m .literal)
+
+mask-swap : (ρ : Env) (g : List ℕ) (o : Binary) (x y : ℕ) (m : Mask) → MaskSays ρ g o y x m → MaskSays ρ g o x y m
+mask-swap ρ g o x y m s = record {
+  width = s .width;
+  type = s .type;
+  here = s .here;
+  typed = s .typed;
+  mask = s .mask;
+  literal = s .literal;
+  result = s .result;
+  op = s .op;
+  base = s .base;
+  has = s .has;
+  means = eqb-sym x y ∙ s .means;
+}
+
+module _ (ρ : Env) (g : List ℕ) (inv : Inv ρ g) (n w x y : ℕ) (l : n < countOf g) (t : typeAt g n ≡ ty.Bits w) (ey : value ρ g n ≡ some y) (c : Chain)
+    (o : c .op ≡ bi.And) (ex : value ρ g (c .base) ≡ some x) where
+  -- the node itself is the And
+  bare-update : (u : Update) → some (record { preserved = n; literal = 0 }) ≡ some u → chainAt g (u .preserved) ≡ some c
+      → UpdateSays x y (c .value) (u .literal) w
+  bare-update u e q =
+      let f : record { preserved = n; literal = 0 } ≡ u = some-has e in
+      let fp : n ≡ u .preserved = ap (λ (h : Update). h .preserved) f in
+      let fl : 0 ≡ u .literal = ap (λ (h : Update). h .literal) f in
+      let s = chain-value ρ g inv n w x y c l t (ap (chainAt g) fp ∙ q) o ex ey in
+      rw (← fl) (record { means = s .means ∙ sym (or-zero-r (bitAnd x (c .value))); keep = s .small; literal = pow-pos w })
+
+  update-says : (u : Update) → updateAt g n ≡ some u → chainAt g (u .preserved) ≡ some c → UpdateSays x y (c .value) (u .literal) w
+  unfolding updateAt
+  update-says u e q = go (operationAt g n) refl e
+    where
+      go : (p : Op) → operationAt g n ≡ p → updateOf g n p ≡ some u → UpdateSays x y (c .value) (u .literal) w
+      go (node.constant k) d e = bare-update u e q
+      go (node.input i) d e = bare-update u e q
+      go (node.refine i) d e = bare-update u e q
+      go (node.effect i) d e = bare-update u e q
+      go (node.slice i s v) d e = bare-update u e q
+      go (node.concat i j v) d e = bare-update u e q
+      go (node.unary a i) d e = bare-update u e q
+      go (node.binary b i j) d e = on (sameBinary b bi.Or) refl (literal g j) refl e
+        where
+          on : (z : Bool) → sameBinary b bi.Or ≡ z → (k : Option ℕ) → literal g j ≡ k
+              → cond z (given k (λ a. some (record { preserved = i; literal = a })) none) (some (record { preserved = n; literal = 0 })) ≡ some u
+              → UpdateSays x y (c .value) (u .literal) w
+          on false zb k zk e = bare-update u e q
+          on true zb none zk e = absurd (none-has e)
+          on true zb (some k) zk e =
+              let f : record { preserved = i; literal = k } ≡ u = some-has e in
+              let fp : i ≡ u .preserved = ap (λ (h : Update). h .preserved) f in
+              let fl : k ≡ u .literal = ap (λ (h : Update). h .literal) f in
+              let r = or-value ρ g inv n i j k w y l (d ∙ ap (λ (h : Binary). node.binary h i j) (binary-is b bi.Or zb)) zk t ey in
+              let s = chain-value ρ g inv i w x (r .left) c (r .here) (r .type) (ap (chainAt g) fp ∙ q) o ex (r .has) in
+              rw (← fl) (record { means = r .means ∙ ap (λ (h : ℕ). bitOr h k) (s .means); keep = s .small; literal = r .small })
+
+next-found : {m : Mask} → next ≡ found m → ⊥
+next-found e = let z : _≡_ {A = ℕ} 0 1 = cc in omega arith
+
+end-found : {m : Mask} → end ≡ found m → ⊥
+end-found e = let z : _≡_ {A = ℕ} 0 1 = cc in omega arith
+
+found-is : {a b : Mask} → found a ≡ found b → a ≡ b
+found-is e = cc
+
+module _ (ρ : Env) (g : List ℕ) (inv : Inv ρ g) (o : Binary) where
+  module _ (base updated x y : ℕ) (lb : base < countOf g) (lu : updated < countOf g) (ex : value ρ g base ≡ some x) (ey : value ρ g updated ≡ some y) where
+    changed-says : (w : ℕ) (u : Update) (c : Chain) → typeAt g base ≡ ty.Bits w → typeAt g updated ≡ ty.Bits w → updateAt g updated ≡ some u
+        → chainAt g (u .preserved) ≡ some c → keeps base w (u .literal) c ≡ true → MaskSays ρ g o x y (changed o base w (u .literal) c)
+    changed-says w u c tb tu eu ec k =
+        let p = both-is (sameBinary (c .op) bi.And) (both (eqb (c .base) base) (both (eqb (bitAnd (u .literal) (c .value)) 0) (leb (u .literal) (mask w)))) k in
+        let q = both-is (eqb (c .base) base) (both (eqb (bitAnd (u .literal) (c .value)) 0) (leb (u .literal) (mask w))) (p .1) in
+        let r = both-is (eqb (bitAnd (u .literal) (c .value)) 0) (leb (u .literal) (mask w)) (q .1) in
+        let same : c .base ≡ base = eqb-true (c .base) base (q .0) in
+        let s =
+        update-says ρ g inv updated w x y lu tu ey c (binary-is (c .op) bi.And (p .0)) (ap (value ρ g) same ∙ ex) u eu ec in
+        let lx : x < 2 ^ w = subst (λ (h : ScalarType). x < size h) tb (value-small ρ g inv base lb x ex) in
+        let lw : w ≤ 128 = subst (λ (h : ScalarType). typeWidth h ≤ 128) tb (inv .width base lb) in
+        let m : bitAnd (u128.not (c .value)) (mask w) ≡ 2 ^ w - 1 - c .value = mask-is w (c .value) lw (s .keep) in
+        record {
+          width = w;
+          type = refl;
+          here = lb;
+          typed = tb;
+          mask = rw m (not-small (2 ^ w) (c .value) (pow-pos w));
+          literal = s .literal;
+          result = refl;
+          op = refl;
+          base = x;
+          has = ex;
+          means =
+              ap (eqb x) (s .means)
+              ∙ same-test w x (c .value) (u .literal) lx (s .keep) (s .literal) (eqb-true (bitAnd (u .literal) (c .value)) 0 (r .0))
+              ∙ ap (λ (h : ℕ). eqb (bitAnd x h) (u .literal)) (sym m);
+        }
+
+    look-says : (m : Mask) → lookAt g o base updated ≡ found m → MaskSays ρ g o x y m
+    unfolding lookAt
+    look-says m e = go (typeAt g base) refl e
+      where
+        go : (t : ScalarType) → typeAt g base ≡ t → lookTyped g o base updated t ≡ found m → MaskSays ρ g o x y m
+        go ty.Bool tb e = absurd (next-found e)
+        go ty.Integer tb e = absurd (next-found e)
+        go (ty.Bits w) tb e = typed (sameType (typeAt g updated) (ty.Bits w)) refl (updateAt g updated) refl e
+          where
+            chain : (u : Update) → updateAt g updated ≡ some u → typeAt g updated ≡ ty.Bits w → (k : Option Chain) → chainAt g (u .preserved) ≡ k
+                → given k (λ c. cond (keeps base w (u .literal) c) (found (changed o base w (u .literal) c)) next) next ≡ found m → MaskSays ρ g o x y m
+            chain u eu tu none ec e = absurd (next-found e)
+            chain u eu tu (some c) ec e = kept (keeps base w (u .literal) c) refl e
+              where
+                kept : (b : Bool) → keeps base w (u .literal) c ≡ b → cond b (found (changed o base w (u .literal) c)) next ≡ found m → MaskSays ρ g o x y m
+                kept true k e = subst (λ (h : Mask). MaskSays ρ g o x y h) (found-is e) (changed-says w u c tb tu eu ec k)
+                kept false k e = absurd (next-found e)
+
+            typed : (b : Bool) → sameType (typeAt g updated) (ty.Bits w) ≡ b → (u : Option Update) → updateAt g updated ≡ u
+                → cond b (given u (λ h. lookUpdate g o base w h) end) next ≡ found m → MaskSays ρ g o x y m
+            typed false tu u eu e = absurd (next-found e)
+            typed true tu none eu e = absurd (end-found e)
+            typed true tu (some u) eu e = chain u eu (type-is (typeAt g updated) (ty.Bits w) tu) (chainAt g (u .preserved)) refl e
+
+  -- either node being the base
+  pub masked-sound : (left right x y : ℕ) → left < countOf g → right < countOf g → value ρ g left ≡ some x → value ρ g right ≡ some y → (m : Mask)
+      → maskedComparison g o left right ≡ some m → MaskSays ρ g o x y m
+  unfolding maskedComparison
+  masked-sound left right x y ll lr ex ey m e = go (lookAt g o left right) refl (lookAt g o right left) refl e
+    where
+      go : (a : Look) → lookAt g o left right ≡ a → (b : Look) → lookAt g o right left ≡ b → firstFound a b ≡ some m → MaskSays ρ g o x y m
+      go next p next q e = absurd (none-has e)
+      go next p end q e = absurd (none-has e)
+      go next p (found h) q e = mask-swap ρ g o x y m (look-says right left y x lr ll ey ex m (q ∙ ap found (some-has e)))
+      go end p b q e = absurd (none-has e)
+      go (found h) p b q e = look-says left right x y ll lr ex ey m (p ∙ ap found (some-has e))
