@@ -8,3 +8,4 @@ pub mod Views
 pub mod Modular
 pub mod Ranges
 pub mod Field
+pub mod Compared

@@ -1,0 +1,476 @@
+-- What ranges say of comparisons holds of the values, and what an operator gives of one value twice, or with a constant. Assumes nothing.
+use mathlib.Core.Path.{_≡_, refl, sym, ap, _∙_, subst}
+use mathlib.Core.Bool.{Bool, true, false, not, cond}
+use mathlib.Core.Logic.{_⊎_, inl, inr, ⊎-elim}
+use mathlib.Core.Option.{Option, none, some}
+use Prim.Native.Nat.{ℕ, zero, suc, zero-le, _+_, _-_, _*_, _%_, _^_, _≤_, _<_}
+use native.Mathlib.Nat.{zero-mod, mod-eq-of-lt, le-refl, lt-of-lt-of-le, mul-one, div-one, mod-mod, min-eq-left}
+use native.Mathlib.Omega.{arith}
+use borrow.Author.Tests.{eq-eqb, ne-eqb, eqb-true, lt-ltb, le-ltb, le-leb}
+use lib.Bits.{bitAnd, bitOr, bitXor, and-self, or-self, xor-self, and-mask, and-mod, or-mod, xor-mod, and-zero-r, or-zero-r, xor-zero-r, or-add-and}
+use lib.Dec.{T, eqb, ltb, leb}
+use lib.IntN.{ℤ, pos, negsuc, _+ℤ_, _-ℤ_, _*ℤ_, +ℤ-invr, +ℤ-idr, *ℤ-zero}
+use lib.Pow.{pow-pos, pow-mono, ones-lt}
+use lib.Signed.{mag, ltZ, leZ, shrZ, _≤ℤ_, leZ-yes, ≤ℤ-refl}
+use Rattle.word.specs.Value.{signed, residue, eqZ, provided, fits, fitted, isPowerOfTwo}
+use Rattle.word.proofs.Integer.{signed-low, signed-high, signed-mag, residue-signed, lt-or-ge}
+use Rattle.word.proofs.Counts.{power-of-two}
+use Rattle.word.proofs.Orders.{le-not-less}
+use Rattle.range.specs.Interval.{Interval, _∈_, both, sameInterval, nonnegative}
+use Rattle.range.specs.declared.ScalarType.{ScalarType}
+use Rattle.range.specs.declared.ScalarType.the-variants as ty
+use Rattle.range.proofs.Order.{up, down, orders, less-true}
+use Rattle.range.proofs.Sound.{tests, either}
+use Rattle.evaluate.specs.Evaluate.{fromBool, mapped, reduced, shiftedLeft, shiftedRight, shiftWidth, arithmeticShift, evaluateBinary}
+use Rattle.evaluate.specs.declared.Binary.{Binary}
+use Rattle.evaluate.specs.declared.Binary.the-variants as bi
+use Rattle.evaluate.proofs.Fields.{residue-narrow}
+use Rattle.evaluate.proofs.Shifts.{shift-left, shift-right, arithmetic}
+use Rattle.bits.proofs.Logic.{and-assoc, or-assoc, xor-assoc, and-or}
+use Rattle.bits.proofs.Sums.{sub-same, sub-exact}
+use Rattle.fold.specs.Range.{apart, equalRanges, lessRanges, lessEqualRanges, unsignedToo, comparison}
+use Rattle.fold.specs.Shape.{mask}
+use Rattle.meaning.specs.Value.{size, integerOf}
+use Rattle.meaning.proofs.Values.{some-is}
+use Rattle.meaning.proofs.Invariant.{Ends}
+
+-- ---- order and equality of integers in intervals
+
+at-most : (x y : ℤ) → leZ x y ≡ true → x ≤ℤ y
+at-most x y e = leZ-yes (subst T (sym e) tt)
+
+less-false : (x y : ℤ) → ltZ x y ≡ false → y ≤ℤ x
+less-false x y e = at-most y x (le-not-less y x e)
+
+same-is : (x y : ℤ) → eqZ x y ≡ true → x ≡ y
+same-is (pos m) (pos n) e = ap pos (eqb-true m n e)
+same-is (pos m) (negsuc n) e = cc
+same-is (negsuc m) (pos n) e = cc
+same-is (negsuc m) (negsuc n) e = ap negsuc (eqb-true m n e)
+
+same-parts : (x y : ℤ) → up x + down y ≡ up y + down x → x ≡ y
+same-parts (pos m) (pos n) e = ap pos (omega arith)
+same-parts (pos m) (negsuc n) e = absurd (omega arith)
+same-parts (negsuc m) (pos n) e = absurd (omega arith)
+same-parts (negsuc m) (negsuc n) e = ap negsuc (omega arith)
+
+is-less : (x y : ℤ) → up x + down y < up y + down x → ltZ x y ≡ true
+is-less x y h = go (ltZ x y) refl
+  where
+    go : (t : Bool) → ltZ x y ≡ t → t ≡ true
+    go true e = refl
+    go false e = absurd (omega (orders, less-false x y e))
+
+not-less : (x y : ℤ) → y ≤ℤ x → ltZ x y ≡ false
+not-less x y h = go (ltZ x y) refl
+  where
+    go : (t : Bool) → ltZ x y ≡ t → t ≡ false
+    go true e = absurd (omega (orders, less-true x y e))
+    go false e = refl
+
+module _ (x y : ℤ) (a b : Interval) (f : x ∈ a) (g : y ∈ b) where
+  less-in : (truth : Bool) → lessRanges a b ≡ some truth → ltZ x y ≡ truth
+  less-in truth = go (ltZ (a .high) (b .low)) (leZ (b .high) (a .low)) refl refl
+    where
+      go : (p q : Bool) → ltZ (a .high) (b .low) ≡ p → leZ (b .high) (a .low) ≡ q
+          → cond p (some true) (cond q (some false) none) ≡ some truth → ltZ x y ≡ truth
+      go true q d e h = is-less x y (omega (orders, less-true (a .high) (b .low) d)) ∙ cc
+      go false true d e h = not-less x y (omega (orders, at-most (b .high) (a .low) e)) ∙ cc
+      go false false d e h = cc
+
+  at-most-in : (truth : Bool) → lessEqualRanges a b ≡ some truth → leZ x y ≡ truth
+  at-most-in truth = go (leZ (a .high) (b .low)) (ltZ (b .high) (a .low)) refl refl
+    where
+      go : (p q : Bool) → leZ (a .high) (b .low) ≡ p → ltZ (b .high) (a .low) ≡ q
+          → cond p (some true) (cond q (some false) none) ≡ some truth → leZ x y ≡ truth
+      go true q d e h = le-not-less x y (not-less y x (omega (orders, at-most (a .high) (b .low) d))) ∙ cc
+      go false true d e h = le-not-less x y (is-less y x (omega (orders, less-true (b .high) (a .low) e))) ∙ cc
+      go false false d e h = cc
+
+  equal-in : (truth : Bool) → equalRanges a b ≡ some truth → ((truth ≡ true) × (x ≡ y)) ⊎ ((truth ≡ false) × (x ≡ y → ⊥))
+  equal-in truth = go (both (eqZ (a .low) (a .high)) (sameInterval a b)) (apart a b) refl refl
+    where
+      ends : both (eqZ (a .low) (a .high)) (sameInterval a b) ≡ true → x ≡ y
+      ends d =
+          let t = tests (eqZ (a .low) (a .high)) (sameInterval a b) d in
+          let s = tests (eqZ (a .low) (b .low)) (eqZ (a .high) (b .high)) (t .1) in
+          let l = same-is (a .low) (a .high) (t .0) in
+          let m = same-is (a .low) (b .low) (s .0) in
+          let n = same-is (a .high) (b .high) (s .1) in
+          same-parts x y (omega (orders, ap up l, ap down l, ap up m, ap down m, ap up n, ap down n))
+
+      away : apart a b ≡ true → x ≡ y → ⊥
+      away d q =
+          ⊎-elim (λ (h : ltZ (a .high) (b .low) ≡ true). omega (orders, less-true (a .high) (b .low) h, ap up q, ap down q))
+          (λ (h : ltZ (b .high) (a .low) ≡ true). omega (orders, less-true (b .high) (a .low) h, ap up q, ap down q))
+          (either (ltZ (a .high) (b .low)) (ltZ (b .high) (a .low)) d)
+
+      go : (p q : Bool) → both (eqZ (a .low) (a .high)) (sameInterval a b) ≡ p → apart a b ≡ q
+          → cond p (some true) (cond q (some false) none) ≡ some truth → ((truth ≡ true) × (x ≡ y)) ⊎ ((truth ≡ false) × (x ≡ y → ⊥))
+      go true q d e h = inl (cc, ends d)
+      go false true d e h = inr (cc, away e)
+      go false false d e h = inl (cc, cc)
+
+-- ---- values as integers
+
+below-end : (n : ℕ) (z : ℤ) (h : ℕ) → pos n ≤ℤ z → mag z < h → n < h
+below-end n (pos m) h l q = omega orders
+below-end n (negsuc m) h l q = absurd (omega orders)
+
+-- a value of any type with a range is the integer that its pattern stands for
+read : (s : ScalarType) (x : ℕ) (a : Interval) → (integerOf s x) ∈ a → Ends a → integerOf s x ≡ signed 128 x
+read ty.Bool x a f e = sym (signed-low 128 x (below-end x (a .high) (2 ^ 127) (f .below) (e .high)))
+read (ty.Bits w) x a f e = sym (signed-low 128 x (below-end x (a .high) (2 ^ 127) (f .below) (e .high)))
+read ty.Integer x a f e = refl
+
+-- an integer that isn't negative is its pattern
+natural : (w x : ℕ) → x < 2 ^ w → pos 0 ≤ℤ signed w x → signed w x ≡ pos x
+natural w x l h =
+    ⊎-elim (λ (q : x < 2 ^ (w - 1)). signed-low w x q)
+    (λ (q : 2 ^ (w - 1) ≤ x). absurd (below (2 ^ w - suc x) (subst (λ (z : ℤ). pos 0 ≤ℤ z) (signed-high w x q l) h)))
+    (lt-or-ge x (2 ^ (w - 1)))
+  where
+    below : (n : ℕ) → pos 0 ≤ℤ negsuc n → ⊥
+    below n h = omega orders
+
+module _ (x y : ℕ) (a b : Interval) (l : x < 2 ^ 128) (m : y < 2 ^ 128) (f : (signed 128 x) ∈ a) (g : (signed 128 y) ∈ b) where
+  equal-value : (truth : Bool) → equalRanges a b ≡ some truth → eqb x y ≡ truth
+  equal-value truth e =
+      ⊎-elim
+      (λ (h : (truth ≡ true) × (signed 128 x ≡ signed 128 y)).
+      eq-eqb x y (sym (residue-signed 128 x l) ∙ ap (residue 128) (h .1) ∙ residue-signed 128 y m) ∙ sym (h .0))
+      (λ (h : (truth ≡ false) × (signed 128 x ≡ signed 128 y → ⊥)). ne-eqb x y (λ q. h .1 (ap (signed 128) q)) ∙ sym (h .0))
+      (equal-in (signed 128 x) (signed 128 y) a b f g truth e)
+
+  equal-mapped : (r : Option Bool) (truth : Bool) → equalRanges a b ≡ r → mapped not r ≡ some truth → not (eqb x y) ≡ truth
+  equal-mapped none truth d e = cc
+  equal-mapped (some t) truth d e = ap not (equal-value t d) ∙ cc
+
+  unsigned : unsignedToo a b ≡ true → (signed 128 x ≡ pos x) × (signed 128 y ≡ pos y)
+  unsigned e =
+      let t = tests (nonnegative a) (nonnegative b) e in
+      let p = at-most (pos 0) (a .low) (t .0) in
+      let q = at-most (pos 0) (b .low) (t .1) in
+      (natural 128 x l (over (signed 128 x) (a .low) p (f .above)), natural 128 y m (over (signed 128 y) (b .low) q (g .above)))
+    where
+      over : (z u : ℤ) → pos 0 ≤ℤ u → u ≤ℤ z → pos 0 ≤ℤ z
+      over z u h k = omega orders
+
+  less-unsigned : (t truth : Bool) → unsignedToo a b ≡ t → provided t (lessRanges a b) ≡ some truth → ltb x y ≡ truth
+  less-unsigned true truth d e =
+      let u = unsigned d in
+      sym (λ i. ltZ (u .0 i) (u .1 i)) ∙ less-in (signed 128 x) (signed 128 y) a b f g truth e
+  less-unsigned false truth d e = cc
+
+  at-most-unsigned : (t truth : Bool) → unsignedToo a b ≡ t → provided t (lessEqualRanges a b) ≡ some truth → leb x y ≡ truth
+  at-most-unsigned true truth d e =
+      let u = unsigned d in
+      sym (λ i. leZ (u .0 i) (u .1 i)) ∙ at-most-in (signed 128 x) (signed 128 y) a b f g truth e
+  at-most-unsigned false truth d e = cc
+
+  compared : (o : Binary) (truth : Bool) → comparison o a b ≡ some truth → evaluateBinary o ty.Bool x y ≡ some (fromBool truth)
+  unfolding comparison evaluateBinary
+  compared bi.Add truth e = cc
+  compared bi.Sub truth e = cc
+  compared bi.Mul truth e = cc
+  compared bi.And truth e = cc
+  compared bi.Or truth e = cc
+  compared bi.Xor truth e = cc
+  compared bi.ShiftLeft truth e = cc
+  compared bi.ShiftRight truth e = cc
+  compared bi.ArithmeticShiftRight truth e = cc
+  compared bi.Equal truth e = ap (λ (t : Bool). some (fromBool t)) (equal-value truth e)
+  compared bi.NotEqual truth e = ap (λ (t : Bool). some (fromBool t)) (equal-mapped (equalRanges a b) truth refl e)
+  compared bi.LessSigned truth e = ap (λ (t : Bool). some (fromBool t)) (less-in (signed 128 x) (signed 128 y) a b f g truth e)
+  compared bi.LessUnsigned truth e = ap (λ (t : Bool). some (fromBool t)) (less-unsigned (unsignedToo a b) truth refl e)
+  compared bi.LessEqualSigned truth e = ap (λ (t : Bool). some (fromBool t)) (at-most-in (signed 128 x) (signed 128 y) a b f g truth e)
+  compared bi.LessEqualUnsigned truth e = ap (λ (t : Bool). some (fromBool t)) (at-most-unsigned (unsignedToo a b) truth refl e)
+  compared bi.DivideSigned truth e = cc
+  compared bi.RemainderSigned truth e = cc
+  compared bi.DivideUnsigned truth e = cc
+  compared bi.RemainderUnsigned truth e = cc
+
+pub comparison-sound : (o : Binary) (s : ScalarType) (x y : ℕ) (a b : Interval) (truth : Bool) → x < 2 ^ 128 → y < 2 ^ 128
+    → (integerOf s x) ∈ a → (integerOf s y) ∈ b → Ends a → Ends b → comparison o a b ≡ some truth
+    → evaluateBinary o ty.Bool x y ≡ some (fromBool truth)
+comparison-sound o s x y a b truth l m f g p q e =
+    compared x y a b l m (subst (λ (z : ℤ). z ∈ a) (read s x a f p) f) (subst (λ (z : ℤ). z ∈ b) (read s y b g q) g) o truth e
+
+-- ---- one value twice
+
+reduced-zero : (t : ScalarType) → reduced t 0 ≡ 0
+reduced-zero ty.Bool = refl
+reduced-zero (ty.Bits w) = zero-mod (2 ^ w)
+reduced-zero ty.Integer = refl
+
+-- a value of the type is as it is
+pub reduced-keep : (t : ScalarType) (x : ℕ) → x < size t → reduced t x ≡ x
+reduced-keep ty.Bool x l = refl
+reduced-keep (ty.Bits w) x l = mod-eq-of-lt l
+reduced-keep ty.Integer x l = refl
+
+-- an integer of a pattern, as an answer
+answer : (z : ℤ) (x : ℕ) → x < 2 ^ 128 → z ≡ signed 128 x → mapped (residue 128) (fitted z) ≡ some x
+unfolding fits
+answer z x l e =
+    let m : mag (signed 128 x) < 2 ^ 127 = signed-mag 128 x (omega arith) l in
+    rw (e, lt-ltb (mag (signed 128 x)) (2 ^ 127) m) (ap some (residue-signed 128 x l))
+
+module _ (t : ScalarType) (x : ℕ) where
+  pub sub-twice : x < 2 ^ 128 → evaluateBinary bi.Sub t x x ≡ some 0
+  unfolding evaluateBinary
+  sub-twice l = go t
+    where
+      pattern : (x + (2 ^ 128 - x)) % 2 ^ 128 ≡ 0
+      pattern = sub-same x (2 ^ 128) l
+
+      go : (t : ScalarType) → evaluateBinary bi.Sub t x x ≡ some 0
+      go ty.Bool = ap some pattern
+      go (ty.Bits w) = ap (λ (n : ℕ). some (n % 2 ^ w)) pattern ∙ ap some (zero-mod (2 ^ w))
+      go ty.Integer = ap (mapped (reduced ty.Integer)) (answer (signed 128 x -ℤ signed 128 x) 0 (pow-pos 128) (+ℤ-invr (signed 128 x) ∙ sym (signed-low 128 0 (pow-pos 127))))
+
+  pub xor-twice : evaluateBinary bi.Xor t x x ≡ some 0
+  unfolding evaluateBinary
+  xor-twice = ap (λ (n : ℕ). some (reduced t n)) (xor-self x) ∙ ap some (reduced-zero t)
+
+  pub and-twice : x < size t → evaluateBinary bi.And t x x ≡ some x
+  unfolding evaluateBinary
+  and-twice l = ap (λ (n : ℕ). some (reduced t n)) (and-self x) ∙ ap some (reduced-keep t x l)
+
+  pub or-twice : x < size t → evaluateBinary bi.Or t x x ≡ some x
+  unfolding evaluateBinary
+  or-twice l = ap (λ (n : ℕ). some (reduced t n)) (or-self x) ∙ ap some (reduced-keep t x l)
+
+module _ (x : ℕ) where
+  pub equal-twice : evaluateBinary bi.Equal ty.Bool x x ≡ some 1
+  unfolding evaluateBinary
+  equal-twice = rw (eq-eqb x x refl)
+
+  pub not-equal-twice : evaluateBinary bi.NotEqual ty.Bool x x ≡ some 0
+  unfolding evaluateBinary
+  not-equal-twice = rw (eq-eqb x x refl)
+
+  pub less-signed-twice : evaluateBinary bi.LessSigned ty.Bool x x ≡ some 0
+  unfolding evaluateBinary
+  less-signed-twice = rw (not-less (signed 128 x) (signed 128 x) (≤ℤ-refl (signed 128 x)))
+
+  pub less-unsigned-twice : evaluateBinary bi.LessUnsigned ty.Bool x x ≡ some 0
+  unfolding evaluateBinary
+  less-unsigned-twice = rw (le-ltb x x (le-refl x))
+
+  pub at-most-signed-twice : evaluateBinary bi.LessEqualSigned ty.Bool x x ≡ some 1
+  unfolding evaluateBinary
+  at-most-signed-twice = rw (le-not-less (signed 128 x) (signed 128 x) (not-less (signed 128 x) (signed 128 x) (≤ℤ-refl (signed 128 x))))
+
+  pub at-most-unsigned-twice : evaluateBinary bi.LessEqualUnsigned ty.Bool x x ≡ some 1
+  unfolding evaluateBinary
+  at-most-unsigned-twice = rw (le-leb x x (le-refl x))
+
+-- ---- 0 on the right
+
+plus-zero : (n : ℕ) → n + 0 ≡ n
+plus-zero n = omega arith
+
+minus-zero : (n : ℕ) → n - 0 ≡ n
+minus-zero n = omega arith
+
+times-zero : (n : ℕ) → n * 0 ≡ 0
+times-zero n = omega arith
+
+-- a pattern of a type of at most 128 bits
+pub small : (t : ScalarType) (x : ℕ) → shiftWidth t ≤ 128 → x < size t → x < 2 ^ 128
+small ty.Bool x h l =
+    let q : 1 ≤ 128 = omega arith in
+    let p : 2 ^ 1 ≤ 2 ^ 128 = pow-mono q in
+    lt-of-lt-of-le l p
+small (ty.Bits w) x h l = lt-of-lt-of-le l (pow-mono h)
+small ty.Integer x h l = l
+
+zero-signed : signed 128 0 ≡ pos 0
+zero-signed = signed-low 128 0 (pow-pos 127)
+
+shr-one : (z : ℤ) → shrZ z 1 ≡ z
+shr-one (pos n) = ap pos (div-one n)
+shr-one (negsuc n) = ap negsuc (div-one n)
+
+made : (t : ScalarType) (n : ℕ) → n ≡ 0 → _≡_ {A = Option ℕ} (some (reduced t n)) (some 0)
+made t n e = ap (λ (n : ℕ). some (reduced t n)) e ∙ ap some (reduced-zero t)
+
+module _ (t : ScalarType) (x : ℕ) where
+  pub and-zero : evaluateBinary bi.And t x 0 ≡ some 0
+  unfolding evaluateBinary
+  and-zero = made t (bitAnd x 0) (and-zero-r x)
+
+  pub mul-zero : evaluateBinary bi.Mul t x 0 ≡ some 0
+  unfolding evaluateBinary
+  mul-zero = go t
+    where
+      product : x * 0 % 2 ^ 128 ≡ 0
+      product = ap (λ (n : ℕ). n % 2 ^ 128) (times-zero x) ∙ zero-mod (2 ^ 128)
+
+      go : (t : ScalarType) → evaluateBinary bi.Mul t x 0 ≡ some 0
+      go ty.Bool = ap some product
+      go (ty.Bits w) = made (ty.Bits w) (x * 0 % 2 ^ 128) product
+      go ty.Integer =
+          ap (mapped (reduced ty.Integer))
+          (answer (signed 128 x *ℤ signed 128 0) 0 (pow-pos 128)
+          (ap (λ (z : ℤ). signed 128 x *ℤ z) zero-signed ∙ *ℤ-zero (signed 128 x) ∙ sym zero-signed))
+
+  module _ (l : x < size t) where
+    kept : (n : ℕ) → n ≡ x → _≡_ {A = Option ℕ} (some (reduced t n)) (some x)
+    kept n e = ap (λ (n : ℕ). some (reduced t n)) e ∙ ap some (reduced-keep t x l)
+
+    pub or-zero : evaluateBinary bi.Or t x 0 ≡ some x
+    unfolding evaluateBinary
+    or-zero = kept (bitOr x 0) (or-zero-r x)
+
+    pub xor-zero : evaluateBinary bi.Xor t x 0 ≡ some x
+    unfolding evaluateBinary
+    xor-zero = kept (bitXor x 0) (xor-zero-r x)
+
+    module _ (m : x < 2 ^ 128) where
+      pub shift-left-zero : evaluateBinary bi.ShiftLeft t x 0 ≡ some x
+      unfolding evaluateBinary
+      shift-left-zero = kept (shiftedLeft x 0) (shift-left x 0 ∙ ap (λ (n : ℕ). n % 2 ^ 128) (mul-one x) ∙ mod-eq-of-lt m)
+
+      pub shift-right-zero : evaluateBinary bi.ShiftRight t x 0 ≡ some x
+      unfolding evaluateBinary
+      shift-right-zero = kept (shiftedRight x 0) (shift-right x 0 m ∙ div-one x)
+
+pub add-zero : (t : ScalarType) (x : ℕ) → x < size t → x < 2 ^ 128 → evaluateBinary bi.Add t x 0 ≡ some x
+unfolding evaluateBinary
+add-zero t x l m = go t l
+  where
+    sum : (x + 0) % 2 ^ 128 ≡ x
+    sum = ap (λ (n : ℕ). n % 2 ^ 128) (plus-zero x) ∙ mod-eq-of-lt m
+
+    go : (t : ScalarType) → x < size t → evaluateBinary bi.Add t x 0 ≡ some x
+    go ty.Bool l = ap some sum
+    go (ty.Bits w) l = kept (ty.Bits w) x l ((x + 0) % 2 ^ 128) sum
+    go ty.Integer l =
+        ap (mapped (reduced ty.Integer))
+        (answer (signed 128 x +ℤ signed 128 0) x m (ap (λ (z : ℤ). signed 128 x +ℤ z) zero-signed ∙ +ℤ-idr (signed 128 x)))
+
+pub sub-zero : (t : ScalarType) (x : ℕ) → x < size t → x < 2 ^ 128 → evaluateBinary bi.Sub t x 0 ≡ some x
+unfolding evaluateBinary
+sub-zero t x l m = go t l
+  where
+    difference : (x + (2 ^ 128 - 0)) % 2 ^ 128 ≡ x
+    difference = sub-exact x 0 (2 ^ 128) m zero-le ∙ minus-zero x
+
+    go : (t : ScalarType) → x < size t → evaluateBinary bi.Sub t x 0 ≡ some x
+    go ty.Bool l = ap some difference
+    go (ty.Bits w) l = kept (ty.Bits w) x l ((x + (2 ^ 128 - 0)) % 2 ^ 128) difference
+    go ty.Integer l =
+        ap (mapped (reduced ty.Integer))
+        (answer (signed 128 x -ℤ signed 128 0) x m (ap (λ (z : ℤ). signed 128 x -ℤ z) zero-signed ∙ +ℤ-idr (signed 128 x)))
+
+arithmetic-none : (x w : ℕ) → w ≤ 128 → x < 2 ^ w → arithmeticShift w x 0 % 2 ^ w ≡ x
+arithmetic-none x zero h l = omega arith
+arithmetic-none x (suc w) h l =
+    ap (λ (n : ℕ). n % 2 ^ suc w) (arithmetic (suc w) x (omega arith) l h 0 ∙ ap (residue 128) (shr-one (signed (suc w) x)))
+    ∙ residue-narrow (signed (suc w) x) 128 (suc w) h ∙ residue-signed (suc w) x l
+
+arithmetic-all : (x : ℕ) → x < 2 ^ 128 → arithmeticShift 128 x 0 ≡ x
+arithmetic-all x m = arithmetic 128 x (omega arith) m (omega arith) 0 ∙ ap (residue 128) (shr-one (signed 128 x)) ∙ residue-signed 128 x m
+
+pub arithmetic-zero : (t : ScalarType) (x : ℕ) → shiftWidth t ≤ 128 → x < size t → evaluateBinary bi.ArithmeticShiftRight t x 0 ≡ some x
+unfolding evaluateBinary
+arithmetic-zero ty.Bool x h l = ap some (arithmetic-all x (small ty.Bool x h l))
+arithmetic-zero (ty.Bits w) x h l = ap some (arithmetic-none x w h l)
+arithmetic-zero ty.Integer x h l = ap some (arithmetic-all x l)
+
+-- ---- all ones on the right
+
+pub mask-is : (w : ℕ) → w ≤ 128 → mask w ≡ 2 ^ w - 1
+mask-is w h = ap (λ (n : ℕ). 2 ^ n - 1) (min-eq-left h)
+
+module _ (w x : ℕ) (l : x < 2 ^ w) where
+  ones-and : bitAnd x (2 ^ w - 1) ≡ x
+  ones-and = and-mask x w ∙ mod-eq-of-lt l
+
+  ones-or : bitOr x (2 ^ w - 1) ≡ 2 ^ w - 1
+  ones-or = go (bitOr x (2 ^ w - 1)) (bitAnd x (2 ^ w - 1)) (2 ^ w - 1) (or-add-and x (2 ^ w - 1)) ones-and
+    where
+      go : (p q n : ℕ) → p + q ≡ x + n → q ≡ x → p ≡ n
+      go p q n e f = omega arith
+
+  pub and-ones : evaluateBinary bi.And (ty.Bits w) x (2 ^ w - 1) ≡ some x
+  unfolding evaluateBinary
+  and-ones = ap (λ (n : ℕ). some (n % 2 ^ w)) ones-and ∙ ap some (mod-eq-of-lt l)
+
+  pub or-ones : evaluateBinary bi.Or (ty.Bits w) x (2 ^ w - 1) ≡ some (2 ^ w - 1)
+  unfolding evaluateBinary
+  or-ones = ap (λ (n : ℕ). some (n % 2 ^ w)) ones-or ∙ ap some (mod-eq-of-lt (ones-lt w))
+
+-- the same of Bool
+pub and-true : (x : ℕ) → x < 2 → evaluateBinary bi.And ty.Bool x 1 ≡ some x
+unfolding evaluateBinary
+and-true x l = ap some (ones-and 1 x l)
+
+pub or-true : (x : ℕ) → x < 2 → evaluateBinary bi.Or ty.Bool x 1 ≡ some 1
+unfolding evaluateBinary
+or-true x l = ap some (ones-or 1 x l)
+
+-- ---- masks of masks
+
+-- an operation on low bits: what is reduced before needs not be
+module _ (f : ℕ → ℕ → ℕ) (low : (a b k : ℕ) → f a b % 2 ^ k ≡ f (a % 2 ^ k) (b % 2 ^ k)) where
+  left-reduced : (t : ScalarType) (a b : ℕ) → reduced t (f (reduced t a) b) ≡ reduced t (f a b)
+  left-reduced ty.Bool a b = refl
+  left-reduced (ty.Bits w) a b =
+      low (a % 2 ^ w) b w ∙ ap (λ (n : ℕ). f n (b % 2 ^ w)) (mod-mod a (2 ^ w)) ∙ sym (low a b w)
+  left-reduced ty.Integer a b = refl
+
+  right-reduced : (t : ScalarType) (a b : ℕ) → reduced t (f a (reduced t b)) ≡ reduced t (f a b)
+  right-reduced ty.Bool a b = refl
+  right-reduced (ty.Bits w) a b = low a (b % 2 ^ w) w ∙ ap (f (a % 2 ^ w)) (mod-mod b (2 ^ w)) ∙ sym (low a b w)
+  right-reduced ty.Integer a b = refl
+
+  merged : ((a b c : ℕ) → f (f a b) c ≡ f a (f b c)) → (t : ScalarType) (x c d v k : ℕ)
+      → some (reduced t (f x c)) ≡ some v → some (reduced t (f c d)) ≡ some k → _≡_ {A = Option ℕ} (some (reduced t (f v d))) (some (reduced t (f x k)))
+  merged assoc t x c d v k p q =
+      let p′ : reduced t (f x c) ≡ v = some-is p in
+      let q′ : reduced t (f c d) ≡ k = some-is q in
+      rw (← p′, ← q′) (ap some (left-reduced t (f x c) d ∙ ap (reduced t) (assoc x c d) ∙ sym (right-reduced t x (f c d))))
+
+-- v is the operation of x and c, k that of c and d
+module _ (t : ScalarType) (x c d v k : ℕ) where
+  pub and-merged : evaluateBinary bi.And t x c ≡ some v → evaluateBinary bi.And t c d ≡ some k → evaluateBinary bi.And t v d ≡ evaluateBinary bi.And t x k
+  unfolding evaluateBinary
+  and-merged = merged bitAnd and-mod and-assoc t x c d v k
+
+  pub or-merged : evaluateBinary bi.Or t x c ≡ some v → evaluateBinary bi.Or t c d ≡ some k → evaluateBinary bi.Or t v d ≡ evaluateBinary bi.Or t x k
+  unfolding evaluateBinary
+  or-merged = merged bitOr or-mod or-assoc t x c d v k
+
+  pub xor-merged : evaluateBinary bi.Xor t x c ≡ some v → evaluateBinary bi.Xor t c d ≡ some k → evaluateBinary bi.Xor t v d ≡ evaluateBinary bi.Xor t x k
+  unfolding evaluateBinary
+  xor-merged = merged bitXor xor-mod xor-assoc t x c d v k
+
+-- v is x or c, u is x and d
+module _ (t : ScalarType) (x c d v u : ℕ) (p : evaluateBinary bi.Or t x c ≡ some v) (q : evaluateBinary bi.And t x d ≡ some u) where
+  pub and-of-or : evaluateBinary bi.And t v d ≡ evaluateBinary bi.Or t u (bitAnd c d)
+  unfolding evaluateBinary
+  and-of-or =
+      let p′ : reduced t (bitOr x c) ≡ v = some-is p in
+      let q′ : reduced t (bitAnd x d) ≡ u = some-is q in
+      rw (← p′, ← q′)
+      (ap some
+      (left-reduced bitAnd and-mod t (bitOr x c) d ∙ ap (reduced t) (and-or x c d) ∙ sym (left-reduced bitOr or-mod t (bitAnd x d) (bitAnd c d))))
+
+  -- k is c and d
+  pub and-of-or-merged : (k : ℕ) → evaluateBinary bi.And t c d ≡ some k → evaluateBinary bi.And t v d ≡ evaluateBinary bi.Or t u k
+  unfolding evaluateBinary
+  and-of-or-merged k r =
+      let r′ : reduced t (bitAnd c d) ≡ k = some-is r in
+      and-of-or ∙ rw (← r′) (ap some (sym (right-reduced bitOr or-mod t u (bitAnd c d))))
+
+-- ---- the remainder by a power of two
+
+pub remainder-and : (t : ScalarType) (x k : ℕ) → evaluateBinary bi.RemainderUnsigned t x (2 ^ k) ≡ evaluateBinary bi.And t x (2 ^ k - 1)
+unfolding evaluateBinary
+remainder-and t x k = rw (lt-ltb 0 (2 ^ k) (pow-pos k)) (ap (λ (n : ℕ). some (reduced t n)) (sym (and-mask x k)))
+
+pub remainder-power : (t : ScalarType) (x b : ℕ) → isPowerOfTwo b ≡ true → evaluateBinary bi.RemainderUnsigned t x b ≡ evaluateBinary bi.And t x (b - 1)
+remainder-power t x b e = let p = power-of-two b e in rw (p .1) (remainder-and t x (p .0))
