@@ -26,7 +26,7 @@ use Rattle.meaning.specs.Value.{Env, size, integerOf, ofType, valued, op
 use Rattle.meaning.proofs.Values.{some-is, typed-of}
 use Rattle.meaning.proofs.Invariant.{Ends, Within, Storable}
 
-no-interval : {a : Interval} → none ≡ some a → ⊥
+pub no-interval : {a : Interval} → none ≡ some a → ⊥
 no-interval e = let z : _≡_ {A = ℕ} 0 1 = cc in omega arith
 
 pub the : {a b : Interval} → some a ≡ some b → a ≡ b

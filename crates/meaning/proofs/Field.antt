@@ -95,13 +95,13 @@ past-zero ty.Integer v i q l e = bit-big v 128 i l e
 
 module _ (ρ : Env) (g : List ℕ) (inv : Inv ρ g) where
   -- what a node of this operation means
-  means-at : (n : ℕ) → n < countOf g → (v : ℕ) → value ρ g n ≡ some v → (o : Op) → operationAt g n ≡ o → operationMeans ρ (typeAt g n) o (value ρ g) ≡ some v
+  pub means-at : (n : ℕ) → n < countOf g → (v : ℕ) → value ρ g n ≡ some v → (o : Op) → operationAt g n ≡ o → operationMeans ρ (typeAt g n) o (value ρ g) ≡ some v
   means-at n l v ev o e = sym (inv-step inv n l ∙ ap (λ (p : Op). operationMeans ρ (typeAt g n) p (value ρ g)) e) ∙ ev
 
-  below-at : (n : ℕ) → n < countOf g → (o : Op) → operationAt g n ≡ o → start o ≤ n
+  pub below-at : (n : ℕ) → n < countOf g → (o : Op) → operationAt g n ≡ o → start o ≤ n
   below-at n l o e = subst (λ (p : Op). start p ≤ n) e (inv .below n l)
 
-  typed-at : (n : ℕ) → n < countOf g → (o : Op) → operationAt g n ≡ o → Typed g (typeAt g n) o
+  pub typed-at : (n : ℕ) → n < countOf g → (o : Op) → operationAt g n ≡ o → Typed g (typeAt g n) o
   typed-at n l o e = subst (λ (p : Op). Typed g (typeAt g n) p) e (inv .typed n l)
 
   value-small : (n : ℕ) → n < countOf g → (v : ℕ) → value ρ g n ≡ some v → v < size (typeAt g n)
@@ -158,10 +158,10 @@ unfolding evaluateUnary
 truncated-means t w x v e = e
 
 -- a concat's parts
-record Sides (a b : ScalarType) (v w : ℕ) : Type 0 where
-  narrow : v ≤ w
-  high : a ≡ ty.Bits (w - v)
-  low : b ≡ ty.Bits v
+pub record Sides (a b : ScalarType) (v w : ℕ) : Type 0 where
+  pub narrow : v ≤ w
+  pub high : a ≡ ty.Bits (w - v)
+  pub low : b ≡ ty.Bits v
 
 both-is : (a b : Bool) → both a b ≡ true → (a ≡ true) × (b ≡ true)
 both-is true b e = (refl, e)
@@ -178,7 +178,7 @@ type-is ty.Integer ty.Bool e = let z : _≡_ {A = ℕ} 0 1 = cc in absurd (omega
 type-is ty.Integer (ty.Bits v) e = let z : _≡_ {A = ℕ} 0 1 = cc in absurd (omega arith)
 type-is ty.Integer ty.Integer e = refl
 
-sides : (a b : ScalarType) (v w : ℕ) → concatTyped a b v w ≡ true → Sides a b v w
+pub sides : (a b : ScalarType) (v w : ℕ) → concatTyped a b v w ≡ true → Sides a b v w
 sides a b v w e =
     let p = both-is (leb v w) (both (sameType a (ty.Bits (w - v))) (sameType b (ty.Bits v))) e in
     let q = both-is (sameType a (ty.Bits (w - v))) (sameType b (ty.Bits v)) (p .1) in

@@ -9,3 +9,5 @@ pub mod Modular
 pub mod Ranges
 pub mod Field
 pub mod Compared
+pub mod Play
+pub mod Slice

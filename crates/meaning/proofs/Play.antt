@@ -1,0 +1,477 @@
+-- Demand 3 of every list of calls, where the builders are sound. Assumes nothing.
+use mathlib.Core.Path.{_≡_, refl, sym, ap, _∙_, subst}
+use mathlib.Core.Bool.{Bool, true, false, cond, false≢true}
+use mathlib.Core.List.{List, [], _∷_, _++_}
+use mathlib.Core.Option.{Option, none, some}
+use Prim.Native.Nat.{ℕ, _%_, _^_, _≤_, _<_}
+use native.Mathlib.Nat.{mod-lt, le-refl}
+use native.Mathlib.Omega.{arith}
+use borrow.Author.Tests.{eqb-true, ltb-true, leb-true, le-leb}
+use lib.Dec.{eqb, ltb, leb, lit<}
+use lib.ListN.{length, getD, replicate, length-replicate, getD-replicate}
+use lib.Pow.{pow-pos}
+use Rattle.word.specs.Value.{signed}
+use Rattle.word.proofs.Integer.{signed-mag}
+use Rattle.range.specs.Interval.{Interval, _∈_, both, typeInterval}
+use Rattle.range.specs.declared.ScalarType.{ScalarType}
+use Rattle.range.specs.declared.ScalarType.the-variants as ty
+use Rattle.range.proofs.Sound.{tests}
+use Rattle.evaluate.specs.Evaluate.{reduced}
+use Rattle.evaluate.specs.Operator.{typeWidth, unaryWidth}
+use Rattle.evaluate.specs.declared.Binary.{Binary}
+use Rattle.evaluate.specs.declared.Binary.the-variants as bi
+use Rattle.graph.specs.Layout.{REGION, LIMIT, countOf}
+use Rattle.graph.specs.Node as node
+use Rattle.graph.specs.Node.{Op, typeAt, rangeAt, wordsOf}
+use Rattle.graph.specs.WellFormed.{isGraph}
+use Rattle.graph.specs.Insert as graph
+use Rattle.graph.specs.Insert.{Reply, Made, made, constantInterval, interned, appended, foundOr, inserted}
+use Rattle.graph.proofs.Grown.{graph-facts}
+use Rattle.graph.proofs.Nodes.{appended-made, appended-full}
+use Rattle.fold.specs.Shape.{sameType}
+use Rattle.build.specs.Build as build
+use Rattle.build.specs.Build.{Call, Out, out}
+use Rattle.retain.specs.Retain.{isKept, isChoice, keptBelow, newId, newIds, retained}
+use Rattle.retain.proofs.Operands.{Choice, choice-facts}
+use Rattle.retain.proofs.Moving.{ids-at}
+use Rattle.retain.proofs.Laws.{id-kept}
+use Rattle.native.specs.Call as calls
+use Rattle.native.specs.Call.{Response, Called, isRefused, refusal, settled, leaves, finished, isBoolValue, isDeclared, constantInGraph, constantCall, inputInGraph, inputCall, effectInGraph, effectCall}
+use Rattle.native.specs.Request as request
+use Rattle.native.specs.Request.{Request, UNITS, allUpTo, allBelow, widths, ids, typed, worked, madeOf, requestInGraph, requestCall}
+use Rattle.native.specs.Retain as retaining
+use Rattle.native.specs.Retain.{Retention, retention, retainInGraph, retainCall}
+use Rattle.native.specs.Typing.{isNumber, binaryTyped}
+use Rattle.meaning.specs.Value.{Env, size, integerOf, ofType, valued, andThen, unaryMeans, binaryMeans, sliceMeans, concatMeans, operationMeans, value}
+use Rattle.meaning.specs.Book.{Action, constant, input, effect, builder, retain, pattern, rangeOf, requestMeans, Line, Condition, inputIs, effectIs, Book, orElse, first, handed, adds, struck, retains, State, called, kept, act, play, Met, AllMet, Right, AllRight, Demand3}
+use Rattle.meaning.proofs.Values.{none-some, typed-is, then-is}
+use Rattle.meaning.proofs.Invariant.{shiftable, storedTyped, Ends, Within, Inv, Extends, ext-here, ext-value, Storable, Kept, kept-refl, Found, Answered, insert-good}
+use Rattle.meaning.proofs.Constants.{no-interval, the, reduced-same, stored-low, stored-high, constant-storable}
+use Rattle.meaning.proofs.Ranges.{type-within, type-ends}
+use Rattle.meaning.proofs.Plans.{Covers, then-covers, binary-covers, concat-covers}
+use Rattle.meaning.proofs.Retain.{kept-here, retain-value, retain-inv}
+use Rattle.meaning.proofs.Tree as Tree
+use Rattle.meaning.proofs.Tree.{meaning, typeOf, Callable, Sound}
+use Rattle.meaning.proofs.Views.{by-test, same-type}
+
+-- ---- lines
+
+module _ (ρ : Env) where
+  lines-ext : {g h : List ℕ} → Extends g h → (ls : List Line) → AllRight ρ g ls → AllRight ρ h ls
+  lines-ext e [] r = tt
+  lines-ext e (l ∷ ls) r =
+      (record { here = ext-here e (l .id) (r .0 .here); means = λ v q. ext-value ρ e (l .id) (r .0 .here) ∙ r .0 .means v q }, lines-ext e ls (r .1))
+
+  lines-more : (g : List ℕ) (ls : List Line) (l : Line) → AllRight ρ g ls → Right ρ g l → AllRight ρ g (ls ++ (l ∷ []))
+  lines-more g [] l r q = (q, tt)
+  lines-more g (k ∷ ls) l r q = (r .0, lines-more g ls l (r .1) q)
+
+  else-is : (a b : Option ℕ) (v : ℕ) → orElse a b ≡ some v → {P : Type 0} → (a ≡ some v → P) → (b ≡ some v → P) → P
+  else-is none b v e f h = h e
+  else-is (some x) b v e f h = f e
+
+  first-is : (g : List ℕ) (ls : List Line) → AllRight ρ g ls → (n v : ℕ) → first ls n ≡ some v → value ρ g n ≡ some v
+  first-is g [] r n v e = absurd (none-some e)
+  first-is g (l ∷ ls) r n v e = go (eqb (l .id) n) refl e (λ q. first-is g ls (r .1) n v q)
+    where
+      go : (b : Bool) → eqb (l .id) n ≡ b → cond b (orElse (l .val) (first ls n)) (first ls n) ≡ some v → (first ls n ≡ some v → value ρ g n ≡ some v)
+          → value ρ g n ≡ some v
+      go true q e ih = else-is (l .val) (first ls n) v e (λ z. ap (value ρ g) (sym (eqb-true (l .id) n q)) ∙ r .0 .means v z) ih
+      go false q e ih = ih e
+
+  -- what an id handed in stands for is its node's value
+  handed-is : (g : List ℕ) (ls : List Line) → AllRight ρ g ls → (n : ℕ) → Covers (handed ρ g ls n) (value ρ g n)
+  handed-is g ls r n v e = else-is (first ls n) (value ρ g n) v e (λ z. first-is g ls r n v z) (λ z. z)
+
+  -- ---- conditions
+
+  met-rest : (cs ds : List Condition) → AllMet ρ (cs ++ ds) → AllMet ρ ds
+  met-rest [] ds m = m
+  met-rest (c ∷ cs) ds m = met-rest cs ds (m .1)
+
+  adds-met : (a : Response) (v : Option ℕ) (cs : List Condition) (b : Book) → AllMet ρ (adds a v cs b .conditions) → AllMet ρ (b .conditions)
+  adds-met (calls.id n) v cs b m = met-rest cs (b .conditions) m
+  adds-met calls.nothing v cs b m = m
+  adds-met (calls.refused k) v cs b m = m
+
+  retains-met : (o : retaining.Outcome) (keep : List ℕ) (b : Book) → AllMet ρ (retains o keep b .conditions) → AllMet ρ (b .conditions)
+  retains-met (retaining.kept n) keep b m = m
+  retains-met (retaining.refused k) keep b m = m
+
+  act-met : (a : Action) (s : State) → AllMet ρ (act ρ a s .book .conditions) → AllMet ρ (s .book .conditions)
+  act-met (constant t v) s m = adds-met (constantCall (s .graph) t (pattern v) .answer) (valued t (pattern v)) [] (s .book) m
+  act-met (input n t r) s m = adds-met (inputCall (s .graph) n t (rangeOf r) .answer) (ofType t (ρ .input n)) (inputIs n t (rangeOf r) ∷ []) (s .book) m
+  act-met (effect n t) s m = adds-met (effectCall (s .graph) n t .answer) (ofType t (ρ .effect n)) (effectIs n t ∷ []) (s .book) m
+  act-met (builder q) s m = adds-met (requestCall (s .graph) q .answer) (requestMeans (handed ρ (s .graph) (s .book .lines)) q) [] (s .book) m
+  act-met (retain keep mapping) s m = retains-met (retainCall (s .graph) keep mapping .outcome) keep (s .book) m
+
+-- ---- what a request means goes on where more is defined
+
+request-covers : (q : Request) (f h : ℕ → Option ℕ) → ((n : ℕ) → Covers (f n) (h n)) → Covers (requestMeans f q) (requestMeans h q)
+request-covers (request.unary t o v) f h c = then-covers (f v) (h v) _ (c v)
+request-covers (request.binary t o l r) f h c = binary-covers t o (f l) (f r) (h l) (h r) (c l) (c r)
+request-covers (request.slice v o w) f h c = then-covers (f v) (h v) _ (c v)
+request-covers (request.concat a b v w) f h c = concat-covers (ty.Bits w) v (f a) (f b) (h a) (h b) (c a) (c b)
+request-covers (request.unsignedRange v low high) f h c = then-covers (f v) (h v) _ (c v)
+
+-- ---- the table of calls is that of stored nodes
+
+shift-stored : (a b t : ScalarType) → binaryTyped bi.ShiftLeft a b t ≡ true → storedTyped bi.ShiftLeft a b t ≡ true
+shift-stored a b t e =
+    let d = tests (isNumber t) _ e in
+    let f = tests (sameType a t) (isNumber b) (d .1) in
+    rw (f .1) (by t (d .0) (same-type a t (f .0)))
+  where
+    by : (t : ScalarType) → isNumber t ≡ true → a ≡ t → both (shiftable a t) true ≡ true
+    by ty.Bool n q = absurd (false≢true n)
+    by (ty.Bits w) n q = rw (q, le-leb w w (le-refl w))
+    by ty.Integer n q = rw q
+
+table-stored : (o : Binary) (a b t : ScalarType) → binaryTyped o a b t ≡ true → storedTyped o a b t ≡ true
+table-stored bi.Add a b t e = e
+table-stored bi.Sub a b t e = e
+table-stored bi.Mul a b t e = e
+table-stored bi.And a b t e = e
+table-stored bi.Or a b t e = e
+table-stored bi.Xor a b t e = e
+table-stored bi.ShiftLeft a b t e = shift-stored a b t e
+table-stored bi.ShiftRight a b t e = e
+table-stored bi.ArithmeticShiftRight a b t e = e
+table-stored bi.Equal a b t e = e
+table-stored bi.NotEqual a b t e = e
+table-stored bi.LessSigned a b t e = e
+table-stored bi.LessUnsigned a b t e = e
+table-stored bi.LessEqualSigned a b t e = e
+table-stored bi.LessEqualUnsigned a b t e = e
+table-stored bi.DivideSigned a b t e = e
+table-stored bi.RemainderSigned a b t e = e
+table-stored bi.DivideUnsigned a b t e = e
+table-stored bi.RemainderUnsigned a b t e = e
+
+-- ---- an insertion answers a node, or that there is no room
+
+abbrev IsPut : Reply → Type 0
+IsPut (graph.id n) = Unit {0}
+IsPut graph.nothing = ⊥
+IsPut graph.room = Unit {0}
+IsPut graph.units = ⊥
+
+inserted-put : (g : List ℕ) (t : ScalarType) (r : Option Interval) (o : Op) → IsPut (inserted g t r o .answer)
+unfolding inserted
+inserted-put g t r o = by (interned g o (wordsOf t r o))
+  where
+    new : (b : Bool) → ltb (countOf g) LIMIT ≡ b → IsPut (appended g (wordsOf t r o) .answer)
+    new true e = rw (appended-made g (wordsOf t r o) (ltb-true (countOf g) LIMIT e)) tt
+    new false e = rw (appended-full g (wordsOf t r o) e) tt
+
+    by : (x : Option ℕ) → IsPut (foundOr g x (appended g (wordsOf t r o)) .answer)
+    by none = new (ltb (countOf g) LIMIT) refl
+    by (some n) = tt
+
+-- ---- one call
+
+-- the invariant, and every line right
+abbrev pub Fine : Env → State → Type 0
+Fine ρ s = Inv ρ (s .graph) × AllRight ρ (s .graph) (s .book .lines)
+
+module _ (ρ : Env) (s : State) (i : Inv ρ (s .graph)) (r : AllRight ρ (s .graph) (s .book .lines)) where
+  module _ (v : Option ℕ) (cs : List Condition) where
+    abbrev After : Called → Type 0
+    After c = Fine ρ (called c v cs (s .book))
+
+    refused-fine : (k : ℕ) → After (refusal (s .graph) k)
+    refused-fine k = (i, r)
+
+    answered-fine : (t : ScalarType) (w : Option ℕ) (a : Reply) (h : List ℕ) → Answered ρ (s .graph) t w a h → Covers v w
+        → After (finished (s .graph) (made a h))
+    answered-fine t w (graph.id n) h k c = (
+      k .0 .inv,
+      lines-more ρ h (s .book .lines) (record { id = n; val = v }) (lines-ext ρ (k .0 .grows) (s .book .lines) r)
+          (record { here = k .1 .here; means = λ x e. k .1 .means x (c x e) }),
+    )
+    answered-fine t w graph.nothing h k c = (k .inv, lines-ext ρ (k .grows) (s .book .lines) r)
+    answered-fine t w graph.room h k c = (i, r)
+    answered-fine t w graph.units h k c = (i, r)
+
+    ended-fine : (t : ScalarType) (w : Option ℕ) (o : Out) → Tree.Ends ρ (s .graph) t w o → Covers v w → After (finished (s .graph) (madeOf o))
+    ended-fine t w (out a u h) k c = answered-fine t w a h k c
+
+  -- ---- constants
+
+  number : (t : ScalarType) (x : ℕ) → x < 2 ^ 128 → isBoolValue t x ≡ true → reduced t x < size t
+  number ty.Bool x l e = ltb-true x 2 e
+  number (ty.Bits w) x l e = mod-lt x (pow-pos w)
+  number ty.Integer x l e = l
+
+  constant-fine : (t : ScalarType) (v : ℕ) → Fine ρ (act ρ (constant t v) s)
+  unfolding constantCall constantInGraph graph.constant
+  constant-fine t v =
+      by-test (After (valued t (pattern v)) []) (isGraph (s .graph))
+      (λ e.
+      by-test (After (valued t (pattern v)) []) (leb (typeWidth t) 128)
+      (λ f.
+      by-test (After (valued t (pattern v)) []) (isBoolValue t (pattern v))
+      (λ d.
+      let c = reduced t (pattern v) in
+      let small : c < size t = number t (pattern v) (mod-lt v (pow-pos 128)) d in
+      answered-fine (valued t (pattern v)) [] t (valued t c) (inserted (s .graph) t (constantInterval t c) (node.constant c) .answer)
+      (inserted (s .graph) t (constantInterval t c) (node.constant c) .words)
+      (insert-good ρ (s .graph) t (constantInterval t c) (node.constant c) i
+      (constant-storable ρ (s .graph) t c (leb-true (typeWidth t) 128 f) small))
+      (λ x q. ap (ofType t) (reduced-same t c small) ∙ q))
+      (λ d. refused-fine (valued t (pattern v)) [] 5))
+      (λ f. refused-fine (valued t (pattern v)) [] 2))
+      (λ e. refused-fine (valued t (pattern v)) [] 1)
+
+  -- ---- inputs and effects
+
+  -- a leaf, whose node may be stored once the call has answered an id
+  leaf-fine : (t : ScalarType) (a : Option Interval) (o : Op) (v : Option ℕ) (cs : List Condition)
+      → (AllMet ρ (cs ++ s .book .conditions) → Storable ρ (s .graph) t a o) → Covers v (operationMeans ρ t o (value ρ (s .graph)))
+      → AllMet ρ (called (finished (s .graph) (inserted (s .graph) t a o)) v cs (s .book) .book .conditions) → After v cs (finished (s .graph) (inserted (s .graph) t a o))
+  leaf-fine t a o v cs storable c = by (inserted (s .graph) t a o .answer) (inserted (s .graph) t a o .words) (inserted-put (s .graph) t a o) (insert-good ρ (s .graph) t a o i)
+    where
+      by : (x : Reply) (h : List ℕ) → IsPut x → (Storable ρ (s .graph) t a o → Answered ρ (s .graph) t (operationMeans ρ t o (value ρ (s .graph))) x h)
+          → AllMet ρ (called (finished (s .graph) (made x h)) v cs (s .book) .book .conditions) → After v cs (finished (s .graph) (made x h))
+      by (graph.id n) h p k m = answered-fine v cs t (operationMeans ρ t o (value ρ (s .graph))) (graph.id n) h (k (storable m)) c
+      by graph.nothing h p k m = absurd p
+      by graph.room h p k m = (i, r)
+      by graph.units h p k m = absurd p
+
+  pattern-ends : (p : Option (ℕ × ℕ)) (a : Interval) → rangeOf p ≡ some a → Ends a
+  pattern-ends none a e = absurd (no-interval e)
+  pattern-ends (some p) a e =
+      subst Ends (the e)
+      (record { low = signed-mag 128 (pattern (p .0)) (lit< tt) (mod-lt (p .0) (pow-pos 128)); high = signed-mag 128 (pattern (p .1)) (lit< tt) (mod-lt (p .1) (pow-pos 128)) })
+
+  given-ends : (t : ScalarType) (p : Option (ℕ × ℕ)) (a : Interval) → graph.orElse (rangeOf p) (typeInterval t) ≡ some a → Ends a
+  given-ends t none a e = type-ends t a e
+  given-ends t (some p) a e = pattern-ends (some p) a e
+
+  given-within : (t : ScalarType) (p : Option (ℕ × ℕ)) (x : ℕ) → x < size t → ((a : Interval) → rangeOf p ≡ some a → (integerOf t x) ∈ a)
+      → Within t x (graph.orElse (rangeOf p) (typeInterval t))
+  given-within t none x l h a e = type-within t x l a e
+  given-within t (some p) x l h a e = h a e
+
+  input-storable : (n : ℕ) (t : ScalarType) (p : Option (ℕ × ℕ)) → typeWidth t ≤ 128 → Met ρ (inputIs n t (rangeOf p))
+      → Storable ρ (s .graph) t (graph.orElse (rangeOf p) (typeInterval t)) (node.input n)
+  input-storable n t p wide m = record {
+    stored = record {
+      width = omega arith;
+      low = stored-low (graph.orElse (rangeOf p) (typeInterval t)) (given-ends t p);
+      high = stored-high (graph.orElse (rangeOf p) (typeInterval t)) (given-ends t p);
+      offset = omega arith;
+      parameter = omega arith;
+    };
+    width = wide;
+    below = omega arith;
+    typed = tt;
+    refined = tt;
+    ends = given-ends t p;
+    within = λ v e.
+        let q = typed-is t (ρ .input n) v e .0 in
+        subst (λ (x : ℕ). Within t x (graph.orElse (rangeOf p) (typeInterval t))) (sym q) (given-within t p (ρ .input n) (m .0) (m .1));
+  }
+
+  input-fine : (n : ℕ) (t : ScalarType) (p : Option (ℕ × ℕ)) → AllMet ρ (act ρ (input n t p) s .book .conditions) → Fine ρ (act ρ (input n t p) s)
+  unfolding inputCall inputInGraph graph.input
+  input-fine n t p =
+      let v = ofType t (ρ .input n) in
+      let cs = inputIs n t (rangeOf p) ∷ [] in
+      by-test (λ c. AllMet ρ (called c v cs (s .book) .book .conditions) → After v cs c) (isGraph (s .graph))
+      (λ e.
+      by-test (λ c. AllMet ρ (called c v cs (s .book) .book .conditions) → After v cs c) (leb (typeWidth t) 128)
+      (λ f.
+      by-test (λ c. AllMet ρ (called c v cs (s .book) .book .conditions) → After v cs c) (isDeclared t (rangeOf p))
+      (λ d.
+      leaf-fine t (graph.orElse (rangeOf p) (typeInterval t)) (node.input n) v cs
+      (λ m. input-storable n t p (leb-true (typeWidth t) 128 f) (m .0)) (λ x q. q))
+      (λ d m. refused-fine v cs 5))
+      (λ f m. refused-fine v cs 2))
+      (λ e m. refused-fine v cs 1)
+
+  effect-storable : (n : ℕ) (t : ScalarType) → typeWidth t ≤ 128 → Met ρ (effectIs n t) → Storable ρ (s .graph) t (typeInterval t) (node.effect n)
+  effect-storable n t wide m = record {
+    stored = record {
+      width = omega arith;
+      low = stored-low (typeInterval t) (type-ends t);
+      high = stored-high (typeInterval t) (type-ends t);
+      offset = omega arith;
+      parameter = omega arith;
+    };
+    width = wide;
+    below = omega arith;
+    typed = tt;
+    refined = tt;
+    ends = type-ends t;
+    within = λ v e. type-within t v (typed-is t (ρ .effect n) v e .1);
+  }
+
+  effect-fine : (n : ℕ) (t : ScalarType) → AllMet ρ (act ρ (effect n t) s .book .conditions) → Fine ρ (act ρ (effect n t) s)
+  unfolding effectCall effectInGraph graph.effect
+  effect-fine n t =
+      let v = ofType t (ρ .effect n) in
+      let cs = effectIs n t ∷ [] in
+      by-test (λ c. AllMet ρ (called c v cs (s .book) .book .conditions) → After v cs c) (isGraph (s .graph))
+      (λ e.
+      by-test (λ c. AllMet ρ (called c v cs (s .book) .book .conditions) → After v cs c) (leb (typeWidth t) 128)
+      (λ f. leaf-fine t (typeInterval t) (node.effect n) v cs (λ m. effect-storable n t (leb-true (typeWidth t) 128 f) (m .0)) (λ x q. q))
+      (λ f m. refused-fine v cs 2))
+      (λ e m. refused-fine v cs 1)
+
+  -- ---- builders
+
+  module _ (builds : Sound ρ build.build)
+      (tested : (v low high : ℕ) → v < countOf (s .graph)
+      → Tree.Ends ρ (s .graph) ty.Bool (requestMeans (value ρ (s .graph)) (request.unsignedRange v low high)) (build.unsignedRange v low high UNITS (s .graph))) where
+    -- what a request's work comes to, once questions 2 to 4 are answered
+    worked-ends : (q : Request) → allUpTo 128 (widths q) ≡ true → allBelow (countOf (s .graph)) (ids q) ≡ true → typed (s .graph) q ≡ true
+        → (t : ScalarType) × Tree.Ends ρ (s .graph) t (requestMeans (value ρ (s .graph)) q) (worked (s .graph) q)
+    unfolding worked
+    worked-ends (request.unary t o v) a b c =
+        let p = tests (leb (typeWidth t) 128) _ a in
+        let q = tests (leb (unaryWidth o) 128) true (p .1) in (
+          t,
+          builds (build.unary t o v) UNITS (s .graph) i
+              (leb-true (typeWidth t) 128 (p .0), leb-true (unaryWidth o) 128 (q .0), ltb-true v (countOf (s .graph)) (tests (ltb v (countOf (s .graph))) true b .0), c),
+        )
+    worked-ends (request.binary t o l d) a b c =
+        let p = tests (ltb l (countOf (s .graph))) _ b in
+        let q = tests (ltb d (countOf (s .graph))) true (p .1) in (
+          t,
+          builds (build.binary t o l d) UNITS (s .graph) i (
+            leb-true (typeWidth t) 128 (tests (leb (typeWidth t) 128) true a .0),
+            ltb-true l (countOf (s .graph)) (p .0),
+            ltb-true d (countOf (s .graph)) (q .0),
+            table-stored o (typeAt (s .graph) l) (typeAt (s .graph) d) t c,
+          ),
+        )
+    worked-ends (request.slice v o w) a b c = (
+      ty.Bits w,
+      builds (build.slice v o w) UNITS (s .graph) i
+          (leb-true w 128 (tests (leb w 128) true a .0), ltb-true v (countOf (s .graph)) (tests (ltb v (countOf (s .graph))) true b .0)),
+    )
+    worked-ends (request.concat h l v w) a b c =
+        let p = tests (ltb h (countOf (s .graph))) _ b in
+        let q = tests (ltb l (countOf (s .graph))) true (p .1) in
+        let m = tests (leb v 128) _ a in (
+          ty.Bits w,
+          builds (build.concat h l v w) UNITS (s .graph) i
+              (leb-true v 128 (m .0), leb-true w 128 (tests (leb w 128) true (m .1) .0), ltb-true h (countOf (s .graph)) (p .0), ltb-true l (countOf (s .graph)) (q .0), c),
+        )
+    worked-ends (request.unsignedRange v low high) a b c =
+        (ty.Bool, tested v low high (ltb-true v (countOf (s .graph)) (tests (ltb v (countOf (s .graph))) true b .0)))
+
+    builder-fine : (q : Request) → Fine ρ (act ρ (builder q) s)
+    unfolding requestCall requestInGraph
+    builder-fine q =
+        let v = requestMeans (handed ρ (s .graph) (s .book .lines)) q in
+        by-test (After v []) (isGraph (s .graph))
+        (λ e.
+        by-test (After v []) (allUpTo 128 (widths q))
+        (λ a.
+        by-test (After v []) (allBelow (countOf (s .graph)) (ids q))
+        (λ b.
+        by-test (After v []) (typed (s .graph) q)
+        (λ c.
+        let k = worked-ends q a b c in
+        ended-fine v [] (k .0) (requestMeans (value ρ (s .graph)) q) (worked (s .graph) q) (k .1)
+        (request-covers q (handed ρ (s .graph) (s .book .lines)) (value ρ (s .graph)) (handed-is ρ (s .graph) (s .book .lines) r)))
+        (λ c. refused-fine v [] 4))
+        (λ b. refused-fine v [] 3))
+        (λ a. refused-fine v [] 2))
+        (λ e. refused-fine v [] 1)
+
+  -- ---- retain
+
+  struck-right : (keep mapping : List ℕ) → isGraph (s .graph) ≡ true → isChoice (s .graph) keep mapping ≡ true → (ls : List Line) → AllRight ρ (s .graph) ls
+      → AllRight ρ (retained (s .graph) keep) (struck keep ls)
+  struck-right keep mapping e c [] d = tt
+  struck-right keep mapping e c (l ∷ ls) d = go (isKept keep (l .id)) refl (struck-right keep mapping e c ls (d .1))
+    where
+      f : Choice (s .graph) keep mapping
+      f = choice-facts (s .graph) keep mapping c
+
+      go : (b : Bool) → isKept keep (l .id) ≡ b → AllRight ρ (retained (s .graph) keep) (struck keep ls)
+          → AllRight ρ (retained (s .graph) keep) (cond b (record { id = newId keep (l .id); val = l .val } ∷ struck keep ls) (struck keep ls))
+      go true k ih =
+          let n = id-kept keep (l .id) k in (
+            record {
+              here = rw n (kept-here ρ i (graph-facts (s .graph) e) f (l .id) (d .0 .here) k);
+              means = λ v q. ap (value ρ (retained (s .graph) keep)) n ∙ retain-value ρ i (graph-facts (s .graph) e) f (l .id) (d .0 .here) k ∙ d .0 .means v q;
+            },
+            ih,
+          )
+      go false k ih = ih
+
+  retain-fine : (keep mapping : List ℕ) → Fine ρ (act ρ (retain keep mapping) s)
+  unfolding retainCall retainInGraph
+  retain-fine keep mapping =
+      by-test (λ k. Fine ρ (kept k keep (s .book))) (isGraph (s .graph))
+      (λ e.
+      by-test (λ k. Fine ρ (kept k keep (s .book))) (isChoice (s .graph) keep mapping)
+      (λ c.
+      (retain-inv ρ i (graph-facts (s .graph) e) (choice-facts (s .graph) keep mapping c), struck-right keep mapping e c (s .book .lines) r))
+      (λ c. (i, r)))
+      (λ e. (i, r))
+
+  -- the mapping of a retain that isn't refused
+  abbrev Mapped : List ℕ → ℕ → Retention → Type 0
+  Mapped keep n k =
+      (getD (k .mapping) n 0 ≡ newId keep n) × (isKept keep n ≡ true → value ρ (k .words) (newId keep n) ≡ value ρ (s .graph) n)
+
+  mapped : (keep mapping : List ℕ) (m : ℕ) → retainCall (s .graph) keep mapping .outcome ≡ retaining.kept m → (n : ℕ) → n < countOf (s .graph)
+      → Mapped keep n (retainCall (s .graph) keep mapping)
+  unfolding retainCall retainInGraph
+  mapped keep mapping m q n l =
+      by-test (λ k. k .outcome ≡ retaining.kept m → Mapped keep n k) (isGraph (s .graph))
+      (λ e.
+      by-test (λ k. k .outcome ≡ retaining.kept m → Mapped keep n k) (isChoice (s .graph) keep mapping)
+      (λ c p. (
+        ids-at keep (countOf (s .graph)) n 0 l,
+        λ k. ap (value ρ (retained (s .graph) keep)) (id-kept keep n k) ∙ retain-value ρ i (graph-facts (s .graph) e) (choice-facts (s .graph) keep mapping c) n l k,
+      ))
+      (λ c p. absurd (not-kept p)))
+      (λ e p. absurd (not-kept p)) q
+    where
+      not-kept : {a b : ℕ} → retaining.refused a ≡ retaining.kept b → ⊥
+      not-kept p = let z : _≡_ {A = ℕ} 0 1 = cc in omega arith
+
+-- ---- every list of calls
+
+module _ (ρ : Env) (builds : Sound ρ build.build)
+    (tested : (g : List ℕ) → Inv ρ g → (v low high : ℕ) → v < countOf g
+    → Tree.Ends ρ g ty.Bool (requestMeans (value ρ g) (request.unsignedRange v low high)) (build.unsignedRange v low high UNITS g)) where
+  act-fine : (a : Action) (s : State) → Fine ρ s → AllMet ρ (act ρ a s .book .conditions) → Fine ρ (act ρ a s)
+  act-fine (constant t v) s f m = constant-fine ρ s (f .0) (f .1) t v
+  act-fine (input n t p) s f m = input-fine ρ s (f .0) (f .1) n t p m
+  act-fine (effect n t) s f m = effect-fine ρ s (f .0) (f .1) n t m
+  act-fine (builder q) s f m = builder-fine ρ s (f .0) (f .1) builds (tested (s .graph) (f .0)) q
+  act-fine (retain keep mapping) s f m = retain-fine ρ s (f .0) (f .1) keep mapping
+
+  empty-inv : Inv ρ (replicate REGION 0)
+  empty-inv = record {
+    size = length-replicate {A = ℕ} REGION 0;
+    few = omega arith;
+    below = λ n l. absurd (omega arith);
+    width = λ n l. absurd (omega arith);
+    typed = λ n l. absurd (omega arith);
+    refined = λ n l. absurd (omega arith);
+    ends = λ n l. absurd (omega arith);
+    ranged = λ n l. absurd (omega arith);
+    alias = λ n l. absurd (omega arith);
+  }
+
+  play-fine : (calls : List Action) → AllMet ρ (play ρ calls .book .conditions) → Fine ρ (play ρ calls)
+  unfolding play
+  play-fine [] m = (empty-inv, tt)
+  play-fine (a ∷ before) m = act-fine a (play ρ before) (play-fine before (act-met ρ a (play ρ before) m)) m
+
+  pub demand3-of : (calls : List Action) → AllMet ρ (play ρ calls .book .conditions) → Demand3 ρ (play ρ calls)
+  demand3-of calls m =
+      let f = play-fine calls m in
+      record {
+        lines = f .1;
+        ranges = f .0 .ranged;
+        mappings = mapped ρ (play ρ calls) (f .0) (f .1);
+      }
