@@ -55,10 +55,10 @@ says-same ρ g v u i j (source m k) e h = (h .0, h .1, h .2, e ∙ h .3)
 
 -- ---- answers that are there
 
-none-has : {A : Type 0} {a : A} → none ≡ some a → ⊥
+pub none-has : {A : Type 0} {a : A} → none ≡ some a → ⊥
 none-has e = let z : _≡_ {A = ℕ} 0 1 = cc in omega arith
 
-some-has : {A : Type 0} {a b : A} → some a ≡ some b → a ≡ b
+pub some-has : {A : Type 0} {a b : A} → some a ≡ some b → a ≡ b
 some-has e = cc
 
 -- ---- bits of numbers
@@ -128,14 +128,14 @@ module _ (ρ : Env) (g : List ℕ) (inv : Inv ρ g) where
       go (node.binary b i j) q e = absurd (none-some e)
 
 -- the operands of a binary operation with a value
-record Operands (ρ : Env) (g : List ℕ) (t : ScalarType) (o : Binary) (i j v : ℕ) : Type 0 where
-  x : ℕ
-  y : ℕ
-  left : value ρ g i ≡ some x
-  right : value ρ g j ≡ some y
-  means : andThen (evaluateBinary o t x y) (ofType t) ≡ some v
+pub record Operands (ρ : Env) (g : List ℕ) (t : ScalarType) (o : Binary) (i j v : ℕ) : Type 0 where
+  pub x : ℕ
+  pub y : ℕ
+  pub left : value ρ g i ≡ some x
+  pub right : value ρ g j ≡ some y
+  pub means : andThen (evaluateBinary o t x y) (ofType t) ≡ some v
 
-operands : (ρ : Env) (g : List ℕ) (t : ScalarType) (o : Binary) (i j v : ℕ) → binaryMeans t o (value ρ g i) (value ρ g j) ≡ some v → Operands ρ g t o i j v
+pub operands : (ρ : Env) (g : List ℕ) (t : ScalarType) (o : Binary) (i j v : ℕ) → binaryMeans t o (value ρ g i) (value ρ g j) ≡ some v → Operands ρ g t o i j v
 operands ρ g t o i j v e =
     let p = then-is (value ρ g i) (λ x. andThen (value ρ g j) (λ y. andThen (evaluateBinary o t x y) (ofType t))) v e in
     let q = then-is (value ρ g j) (λ y. andThen (evaluateBinary o t (p .0) y) (ofType t)) v (p .2) in
@@ -376,7 +376,7 @@ From ρ g (some m) u = (m < countOf g) × (value ρ g m ≡ some u)
 
 -- the i lowest bits of x
 record Parts (ρ : Env) (g : List ℕ) (x i : ℕ) (o : Option ℕ) (keep lit : ℕ) : Type 0 where
-  base : ℕ
+  pub base : ℕ
   origin : From ρ g o base
   bare : o ≡ none → keep ≡ 0
   small : (keep < 2 ^ i) × (lit < 2 ^ i)
@@ -522,7 +522,7 @@ gathers ρ g x w (some m) keep lit h past =
           bit-big lit w i (h .small .1) (omega arith),
         )
 
-provided-is : {A : Type 0} {a : A} (t : Bool) (o : Option A) → provided t o ≡ some a → o ≡ some a
+pub provided-is : {A : Type 0} {a : A} (t : Bool) (o : Option A) → provided t o ≡ some a → o ≡ some a
 provided-is true o e = e
 provided-is false o e = absurd (none-has e)
 
@@ -532,10 +532,10 @@ module _ (ρ : Env) (g : List ℕ) (inv : Inv ρ g) (high low v w a b : ℕ) (lh
     parted : Sides (typeAt g high) (typeAt g low) v w
     parted = sides (typeAt g high) (typeAt g low) v w typed
 
-    high-small : a < 2 ^ (w - v)
+    pub high-small : a < 2 ^ (w - v)
     high-small = subst (λ (t : ScalarType). a < size t) (parted .high) (value-small ρ g inv high lh a eh)
 
-    low-small : b < 2 ^ v
+    pub low-small : b < 2 ^ v
     low-small = subst (λ (t : ScalarType). b < size t) (parted .low) (value-small ρ g inv low ll b el)
 
     upper : (i : ℕ) → v ≤ i → bit (a * 2 ^ v + b) i ≡ bit a (i - v)
@@ -600,7 +600,7 @@ mask-is w k l q =
 not-small : (n k : ℕ) → 0 < n → n - 1 - k < n
 not-small n k l = omega arith
 
-eqb-sym : (x y : ℕ) → eqb x y ≡ eqb y x
+pub eqb-sym : (x y : ℕ) → eqb x y ≡ eqb y x
 eqb-sym x y = go (eqb y x) refl
   where
     go : (b : Bool) → eqb y x ≡ b → eqb x y ≡ b
@@ -617,18 +617,48 @@ same-test w x keep lit lx lk ll apart = go (eqb (bitAnd x (2 ^ w - 1 - keep)) li
     go false e =
         ne-eqb x (bitOr (bitAnd x keep) lit) (λ q. eqb-false (bitAnd x (2 ^ w - 1 - keep)) lit e (field-kept w x keep lit lx lk ll apart q))
 
+-- a node that is a chain: its operation on its base and a constant
+pub record Linked (g : List ℕ) (n : ℕ) (c : Chain) : Type 0 where
+  pub constant : ℕ
+  pub operation : operationAt g n ≡ node.binary (c .op) (c .base) constant
+  pub has : literal g constant ≡ some (c .value)
+
+pub linked : (g : List ℕ) (n : ℕ) (c : Chain) → chainAt g n ≡ some c → Linked g n c
+unfolding chainAt
+linked g n c e = go (operationAt g n) refl e
+  where
+    go : (p : Op) → operationAt g n ≡ p → chainOf g p ≡ some c → Linked g n c
+    go (node.constant k) q e = absurd (none-has e)
+    go (node.input i) q e = absurd (none-has e)
+    go (node.refine i) q e = absurd (none-has e)
+    go (node.effect i) q e = absurd (none-has e)
+    go (node.slice i s v) q e = absurd (none-has e)
+    go (node.concat i j v) q e = absurd (none-has e)
+    go (node.unary u i) q e = absurd (none-has e)
+    go (node.binary b i j) q e = on (literal g j) refl e
+      where
+        on : (k : Option ℕ) → literal g j ≡ k → chained b i k ≡ some c → Linked g n c
+        on none d e = absurd (none-has e)
+        on (some k) d e =
+            let f : record { op = b; base = i; value = k } ≡ c = some-has e in
+            record {
+              constant = j;
+              operation = q ∙ ap (λ (h : Chain). node.binary (h .op) (h .base) j) f;
+              has = d ∙ ap (λ (h : Chain). some (h .value)) f;
+            }
+
 -- y is x And c
 record AndSays (x y c w : ℕ) : Type 0 where
-  means : y ≡ bitAnd x c
+  pub means : y ≡ bitAnd x c
   small : c < 2 ^ w
 
 -- y is the value of i Or c
 record OrSays (ρ : Env) (g : List ℕ) (i y c w : ℕ) : Type 0 where
-  left : ℕ
-  here : i < countOf g
-  type : typeAt g i ≡ ty.Bits w
-  has : value ρ g i ≡ some left
-  means : y ≡ bitOr left c
+  pub left : ℕ
+  pub here : i < countOf g
+  pub type : typeAt g i ≡ ty.Bits w
+  pub has : value ρ g i ≡ some left
+  pub means : y ≡ bitOr left c
   small : c < 2 ^ w
 
 module _ (ρ : Env) (g : List ℕ) (inv : Inv ρ g) where
@@ -675,33 +705,15 @@ module _ (ρ : Env) (g : List ℕ) (inv : Inv ρ g) where
 
   chain-value : (n w x y : ℕ) (c : Chain) → n < countOf g → typeAt g n ≡ ty.Bits w → chainAt g n ≡ some c → c .op ≡ bi.And → value ρ g (c .base) ≡ some x
       → value ρ g n ≡ some y → AndSays x y (c .value) w
-  unfolding chainAt
-  chain-value n w x y c l t e o ex ey = go (operationAt g n) refl e
-    where
-      go : (p : Op) → operationAt g n ≡ p → chainOf g p ≡ some c → AndSays x y (c .value) w
-      go (node.constant k) q e = absurd (none-has e)
-      go (node.input i) q e = absurd (none-has e)
-      go (node.refine i) q e = absurd (none-has e)
-      go (node.effect i) q e = absurd (none-has e)
-      go (node.slice i s v) q e = absurd (none-has e)
-      go (node.concat i j v) q e = absurd (none-has e)
-      go (node.unary u i) q e = absurd (none-has e)
-      go (node.binary b i j) q e = on (literal g j) refl e
-        where
-          on : (k : Option ℕ) → literal g j ≡ k → chained b i k ≡ some c → AndSays x y (c .value) w
-          on none d e = absurd (none-has e)
-          on (some k) d e =
-              let f : record { op = b; base = i; value = k } ≡ c = some-has e in
-              let fo : b ≡ bi.And = ap (λ (h : Chain). h .op) f ∙ o in
-              let fb : i ≡ c .base = ap (λ (h : Chain). h .base) f in
-              let fv : k ≡ c .value = ap (λ (h : Chain). h .value) f in
-              rw (← fv) (and-value n i j k w x y l (q ∙ ap (λ (h : Binary). node.binary h i j) fo) d t (ap (value ρ g) fb ∙ ex) ey)
+  chain-value n w x y c l t e o ex ey =
+      let s = linked g n c e in
+      and-value n (c .base) (s .constant) (c .value) w x y l (s .operation ∙ ap (λ (h : Binary). node.binary h (c .base) (s .constant)) o) (s .has) t ex ey
 
 -- y is x with what is not kept replaced
 record UpdateSays (x y kept lit w : ℕ) : Type 0 where
-  means : y ≡ bitOr (bitAnd x kept) lit
-  keep : kept < 2 ^ w
-  literal : lit < 2 ^ w
+  pub means : y ≡ bitOr (bitAnd x kept) lit
+  pub keep : kept < 2 ^ w
+  pub literal : lit < 2 ^ w
 
 -- what a masked comparison tells of x and y
 pub record MaskSays (ρ : Env) (g : List ℕ) (o : Binary) (x y : ℕ) (m : Mask) : Type 0 where

@@ -11,3 +11,8 @@ pub mod Field
 pub mod Compared
 pub mod Play
 pub mod Slice
+pub mod Tested
+pub mod Unary
+pub mod Concat
+pub mod Offsets
+pub mod Right

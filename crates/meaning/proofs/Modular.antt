@@ -85,19 +85,19 @@ module _ (F : ℕ → ℕ → ℕ) (parts : (a b k : ℕ) → F a b % 2 ^ k ≡ 
 
 -- ---- one law for the six operators
 
-alike-add : (k : ℕ) (x y u v : ℤ) → residue k x ≡ residue k u → residue k y ≡ residue k v → residue k (x +ℤ y) ≡ residue k (u +ℤ v)
+pub alike-add : (k : ℕ) (x y u v : ℤ) → residue k x ≡ residue k u → residue k y ≡ residue k v → residue k (x +ℤ y) ≡ residue k (u +ℤ v)
 alike-add k x y u v e f = sym (residue-add k x y) ∙ (λ i. (e i + f i) % 2 ^ k) ∙ residue-add k u v
 
-alike-sub : (k : ℕ) (x y u v : ℤ) → residue k x ≡ residue k u → residue k y ≡ residue k v → residue k (x -ℤ y) ≡ residue k (u -ℤ v)
+pub alike-sub : (k : ℕ) (x y u v : ℤ) → residue k x ≡ residue k u → residue k y ≡ residue k v → residue k (x -ℤ y) ≡ residue k (u -ℤ v)
 alike-sub k x y u v e f = sym (residue-sub k x y) ∙ (λ i. (e i + (2 ^ k - f i)) % 2 ^ k) ∙ residue-sub k u v
 
 alike-mul : (k : ℕ) (x y u v : ℤ) → residue k x ≡ residue k u → residue k y ≡ residue k v → residue k (x *ℤ y) ≡ residue k (u *ℤ v)
 alike-mul k x y u v e f = sym (residue-mul k x y) ∙ (λ i. e i * f i % 2 ^ k) ∙ residue-mul k u v
 
-wraps-add : (p q : ℕ) → p < 2 ^ 128 → q < 2 ^ 128 → u128.wrapping-add p q ≡ residue 128 (pos p +ℤ pos q)
+pub wraps-add : (p q : ℕ) → p < 2 ^ 128 → q < 2 ^ 128 → u128.wrapping-add p q ≡ residue 128 (pos p +ℤ pos q)
 wraps-add p q lp lq = (λ i. (sym (residue-pos 128 p lp) i + sym (residue-pos 128 q lq) i) % 2 ^ 128) ∙ residue-add 128 (pos p) (pos q)
 
-wraps-sub : (p q : ℕ) → p < 2 ^ 128 → q < 2 ^ 128 → u128.wrapping-sub p q ≡ residue 128 (pos p -ℤ pos q)
+pub wraps-sub : (p q : ℕ) → p < 2 ^ 128 → q < 2 ^ 128 → u128.wrapping-sub p q ≡ residue 128 (pos p -ℤ pos q)
 wraps-sub p q lp lq = (λ i. (sym (residue-pos 128 p lp) i + (2 ^ 128 - sym (residue-pos 128 q lq) i)) % 2 ^ 128) ∙ residue-sub 128 (pos p) (pos q)
 
 wraps-mul : (p q : ℕ) → p < 2 ^ 128 → q < 2 ^ 128 → u128.wrapping-mul p q ≡ residue 128 (pos p *ℤ pos q)

@@ -126,7 +126,7 @@ module _ (ρ : Env) (t : ScalarType) (w : Option ℕ) where
   tail-good g c k = (k .0, λ n h a f. answer-good g h n (typeOf c) (meaning (value ρ g) c) (k .1) (k .2) f)
 
   -- a constant, and what follows it
-  constant-good : (g : List ℕ) (s : ScalarType) (v : ℕ) (k : ℕ → Prog) → Number s v
+  pub constant-good : (g : List ℕ) (s : ScalarType) (v : ℕ) (k : ℕ → Prog) → Number s v
       → ((n : ℕ) (h : List ℕ) → Kept ρ g h → n < countOf h → typeAt h n ≡ s → value ρ h n ≡ some (reduced s v) → Good ρ t w (k n) h)
       → Good ρ t w (constantThen s v k) g
   constant-good g s v k m r = (
@@ -134,7 +134,7 @@ module _ (ρ : Env) (t : ScalarType) (w : Option ℕ) where
     λ n h a f. r n h a (f .here) (f .type) (f .means (reduced s v) (constant-means ρ g s (reduced s v) (m .width) (m .small))),
   )
 
-  by-constant-good : (g : List ℕ) (s : ScalarType) (v : ℕ) (t′ : ScalarType) (o : Binary) (n : ℕ) → ByConstant ρ g t w s v t′ o n
+  pub by-constant-good : (g : List ℕ) (s : ScalarType) (v : ℕ) (t′ : ScalarType) (o : Binary) (n : ℕ) → ByConstant ρ g t w s v t′ o n
       → Good ρ t w (byConstant s v t′ o n) g
   by-constant-good g s v t′ o n k =
       constant-good g s v (λ c. tail (binary t′ o n c)) (k .0)

@@ -39,21 +39,21 @@ use Rattle.meaning.proofs.Views.{same-type}
 -- ---- answers that are there
 
 module _ {A : Type 0} where
-  not-there : {a : A} → none ≡ some a → ⊥
+  pub not-there : {a : A} → none ≡ some a → ⊥
   not-there e = let z : _≡_ {A = ℕ} 0 1 = cc in omega arith
 
-  there : {a b : A} → some a ≡ some b → a ≡ b
+  pub there : {a b : A} → some a ≡ some b → a ≡ b
   there e = cc
 
-  provided-is : (t : Bool) (o : Option A) {r : A} → provided t o ≡ some r → (t ≡ true) × (o ≡ some r)
+  pub provided-is : (t : Bool) (o : Option A) {r : A} → provided t o ≡ some r → (t ≡ true) × (o ≡ some r)
   provided-is true o e = (refl, e)
   provided-is false o e = absurd (not-there e)
 
-mapped-is : {A B : Type 0} (f : A → B) (o : Option A) (b : B) → mapped f o ≡ some b → (a : A) × (o ≡ some a) × (f a ≡ b)
+pub mapped-is : {A B : Type 0} (f : A → B) (o : Option A) (b : B) → mapped f o ≡ some b → (a : A) × (o ≡ some a) × (f a ≡ b)
 mapped-is f none b e = absurd (not-there e)
 mapped-is f (some a) b e = (a, refl, there e)
 
-both-given : {A B C : Type 0} (f : A → B → Option C) (o : Option A) (p : Option B) (c : C) → bothGiven o p f ≡ some c
+pub both-given : {A B C : Type 0} (f : A → B → Option C) (o : Option A) (p : Option B) (c : C) → bothGiven o p f ≡ some c
     → (a : A) × (b : B) × (o ≡ some a) × (p ≡ some b) × (f a b ≡ some c)
 both-given f none p c e = absurd (not-there e)
 both-given f (some a) none c e = absurd (not-there e)
@@ -146,7 +146,7 @@ held w v (some a) l f r e = go (filtered w a) refl e
         let s : z ≡ pos v = n .1 ∙ ap pos (sym (d ∙ ap (residue w) (n .1) ∙ residue-pos w (n .0) (n .2))) in
         rw (← s, ← there e) j
 
-wrapped-sub : (k x y : ℕ) → x < 2 ^ k → y < 2 ^ k → residue k (pos x -ℤ pos y) ≡ (x + (2 ^ k - y)) % 2 ^ k
+pub wrapped-sub : (k x y : ℕ) → x < 2 ^ k → y < 2 ^ k → residue k (pos x -ℤ pos y) ≡ (x + (2 ^ k - y)) % 2 ^ k
 wrapped-sub k x y l m = sym (rw (residue-pos k x l, residue-pos k y m) at (residue-sub k (pos x) (pos y)))
 
 module _ (w : ℕ) (narrow : w ≤ 128) (s t : ScalarType) (x y v : ℕ) (p q a : Interval) (l : x < size s) (m : y < size t)
@@ -198,13 +198,13 @@ module _ (w : ℕ) (narrow : w ≤ 128) (s t : ScalarType) (x y v : ℕ) (p q a 
 
 -- ---- Integer
 
-fitted-is : (z u : ℤ) → fitted z ≡ some u → (z ≡ u) × (mag u < 2 ^ 127)
+pub fitted-is : (z u : ℤ) → fitted z ≡ some u → (z ≡ u) × (mag u < 2 ^ 127)
 fitted-is z u e =
     let p = provided-is (fits z) (some z) e in
     let s : z ≡ u = there (p .1) in
     (s, subst (λ (i : ℤ). mag i < 2 ^ 127) s (fits-below z .0 (p .0)))
 
-quotient-is : (x y u : ℤ) → quotient x y ≡ some u → (quotZ x y ≡ u) × (mag u < 2 ^ 127)
+pub quotient-is : (x y u : ℤ) → quotient x y ≡ some u → (quotZ x y ≡ u) × (mag u < 2 ^ 127)
 unfolding quotient
 quotient-is x y u e = fitted-is (quotZ x y) u (provided-is (ltb 0 (natAbs y)) _ e .1)
 

@@ -176,7 +176,7 @@ module _ {ρ : Env} {g : List ℕ} (i : Inv ρ g) (v : ℕ) (l : v < countOf g) 
     )
 
   -- a value that fits Bits(w)
-  fits-small : (w : ℕ) → w ≤ 128 → (a : Interval) → rangeAt g v ≡ some a → insideBits w a ≡ true → (x : ℕ) → value ρ g v ≡ some x → x < 2 ^ w
+  pub fits-small : (w : ℕ) → w ≤ 128 → (a : Interval) → rangeAt g v ≡ some a → insideBits w a ≡ true → (x : ℕ) → value ρ g v ≡ some x → x < 2 ^ w
   fits-small w wide a e f x m =
       inside-small (typeAt g v) x a (value-pattern i v l x m) (i .ends v l a e) (tests (nonnegative a) _ f .0) (i .ranged v l x m a e) w wide f
 

@@ -1,0 +1,532 @@
+-- What binary decides of ranges, of one node twice and of a constant on the right claims what is asked of it. Assumes nothing.
+use mathlib.Core.Path.{_≡_, refl, sym, ap, _∙_, subst}
+use mathlib.Core.Bool.{Bool, true, false, cond, false≢true}
+use mathlib.Core.List.{List, [], _∷_}
+use mathlib.Core.Logic.{_⊎_, inl, inr, ⊎-elim}
+use mathlib.Core.Option.{Option, none, some}
+use Prim.Native.Nat.{ℕ, _-_, _^_, _≤_, _<_}
+use native.Mathlib.Nat.{mod-lt, lt-of-lt-of-le}
+use native.Mathlib.Omega.{arith}
+use borrow.Author.Tests.{eqb-true, eq-eqb, leb-true}
+use lib.Bits.{bitAnd}
+use lib.Dec.{eqb}
+use lib.Pow.{pow-pos, pow-mono, ones-lt}
+use Rattle.word.specs.Value.{provided, only}
+use Rattle.range.specs.Interval.{Interval, both}
+use Rattle.range.specs.declared.ScalarType.{ScalarType}
+use Rattle.range.specs.declared.ScalarType.the-variants as ty
+use Rattle.range.proofs.Sound.{tests, either}
+use Rattle.evaluate.specs.Evaluate.{fromBool, reduced, shiftWidth, binaryValue, evaluateBinary}
+use Rattle.evaluate.specs.Operator.{typeWidth}
+use Rattle.evaluate.specs.declared.Binary.{Binary}
+use Rattle.evaluate.specs.declared.Binary.the-variants as bi
+use Rattle.graph.specs.Layout.{countOf}
+use Rattle.graph.specs.Node as node
+use Rattle.graph.specs.Node.{Op, typeAt, rangeAt, operationAt}
+use Rattle.graph.specs.Insert.{literal}
+use Rattle.fold.specs.Operator.{zeroKeeps, zeroMakesZero, bitwise}
+use Rattle.fold.specs.Range.{bothGiven, comparison}
+use Rattle.fold.specs.Shape.{given, sameType, sameBinary, isAny, mask, Chain, chained, chainOf, chainAt}
+use Rattle.native.specs.Typing.{isNumber, sameTypes, arithmetic, shift}
+use Rattle.native.specs.Typing as typing
+use Rattle.plan.specs.Plan as plan
+use Rattle.plan.specs.Plan.{Plan}
+use Rattle.plan_binary.specs.Binary.{truthPlan, comparedPlan, twice, zeroPlan, onesPlan, orPlan, rightPlan, mergedPlan, maskTwice, maskPlan}
+use Rattle.build.specs.Build.{binary}
+use Rattle.meaning.specs.Value.{Env, size, ofType, valued, andThen, binaryMeans, value}
+use Rattle.meaning.proofs.Values.{some-is, typed-is, typed-of, then-is}
+use Rattle.meaning.proofs.Invariant.{shiftable, storedTyped, Inv}
+use Rattle.meaning.proofs.Constants.{reduced-same, valued-same}
+use Rattle.meaning.proofs.Tree.{Callable}
+use Rattle.meaning.proofs.Plans.{Claim}
+use Rattle.meaning.proofs.Views.{same-type, value-small, value-pattern}
+use Rattle.meaning.proofs.Ranges.{not-there, there, provided-is, mapped-is, both-given}
+use Rattle.meaning.proofs.Field.{means-at, below-at, typed-at, literal-value, operands, binary-is}
+use Rattle.meaning.proofs.Compared.{comparison-sound, sub-twice, xor-twice, and-twice, or-twice, equal-twice, not-equal-twice, less-signed-twice, less-unsigned-twice, at-most-signed-twice, at-most-unsigned-twice, and-zero, mul-zero, or-zero, xor-zero, shift-left-zero, shift-right-zero, add-zero, sub-zero, arithmetic-zero, mask-is, and-ones, or-ones, and-true, or-true, and-merged, or-merged, xor-merged, and-of-or-merged}
+
+-- ---- types of operands
+
+-- one type
+same-types : (a b t : ScalarType) → sameTypes a b t ≡ true → (a ≡ t) × (b ≡ t)
+same-types a b t e = let p = tests (sameType a t) (sameType b t) e in (same-type a t (p .0), same-type b t (p .1))
+
+arithmetic-types : (a b t : ScalarType) → arithmetic a b t ≡ true → (a ≡ t) × (b ≡ t)
+arithmetic-types a b t e = same-types a b t (tests (isNumber t) (sameTypes a b t) e .1)
+
+-- the left operand of a shift
+shift-type : (a b t : ScalarType) → shift a b t ≡ true → a ≡ t
+shift-type a b t e = same-type a t (tests (sameType a t) (isNumber b) (tests (isNumber t) _ e .1) .0)
+
+-- a comparison gives Bool, of two operands of one type
+compared-types : (a b t : ScalarType) → typing.comparison a b t ≡ true → (t ≡ ty.Bool) × (a ≡ b)
+compared-types a b t e = let p = tests (sameType t ty.Bool) (sameType a b) e in (same-type t ty.Bool (p .0), same-type a b (p .1))
+
+-- what ranges decide is a comparison
+compares : (o : Binary) (c d : Interval) (truth : Bool) → comparison o c d ≡ some truth → (a b t : ScalarType) → storedTyped o a b t ≡ true
+    → (t ≡ ty.Bool) × (a ≡ b)
+unfolding comparison
+compares bi.Add c d truth e a b t s = absurd (not-there e)
+compares bi.Sub c d truth e a b t s = absurd (not-there e)
+compares bi.Mul c d truth e a b t s = absurd (not-there e)
+compares bi.And c d truth e a b t s = absurd (not-there e)
+compares bi.Or c d truth e a b t s = absurd (not-there e)
+compares bi.Xor c d truth e a b t s = absurd (not-there e)
+compares bi.ShiftLeft c d truth e a b t s = absurd (not-there e)
+compares bi.ShiftRight c d truth e a b t s = absurd (not-there e)
+compares bi.ArithmeticShiftRight c d truth e a b t s = absurd (not-there e)
+compares bi.Equal c d truth e a b t s = compared-types a b t s
+compares bi.NotEqual c d truth e a b t s = compared-types a b t s
+compares bi.LessSigned c d truth e a b t s = compared-types a b t s
+compares bi.LessUnsigned c d truth e a b t s = compared-types a b t s
+compares bi.LessEqualSigned c d truth e a b t s = compared-types a b t s
+compares bi.LessEqualUnsigned c d truth e a b t s = compared-types a b t s
+compares bi.DivideSigned c d truth e a b t s = absurd (not-there e)
+compares bi.RemainderSigned c d truth e a b t s = absurd (not-there e)
+compares bi.DivideUnsigned c d truth e a b t s = absurd (not-there e)
+compares bi.RemainderUnsigned c d truth e a b t s = absurd (not-there e)
+
+-- what holds of each of some operators holds of any of them
+abbrev Each : (Binary → Type 0) → List Binary → Type 0
+Each P [] = Unit {0}
+Each P (a ∷ rest) = P a × Each P rest
+
+any-each : (P : Binary → Type 0) (os : List Binary) → Each P os → (o : Binary) → isAny os o ≡ true → P o
+any-each P [] h o e = absurd (false≢true e)
+any-each P (a ∷ rest) h o e =
+    ⊎-elim (λ (q : sameBinary o a ≡ true). subst P (sym (binary-is o a q)) (h .0)) (λ (q : isAny rest o ≡ true). any-each P rest (h .1) o q)
+    (either (sameBinary o a) (isAny rest o) e)
+
+-- ---- 0 on the right
+
+shift-width : (t : ScalarType) → typeWidth t ≤ 128 → shiftWidth t ≤ 128
+shift-width ty.Bool h = omega arith
+shift-width (ty.Bits w) h = h
+shift-width ty.Integer h = omega arith
+
+size-pos : (t : ScalarType) → 0 < size t
+size-pos ty.Bool = omega arith
+size-pos (ty.Bits w) = pow-pos w
+size-pos ty.Integer = pow-pos 128
+
+same-size : {a t : ScalarType} → a ≡ t → (x : ℕ) → x < size a → x < size t
+same-size e x h = subst (λ (s : ScalarType). x < size s) e h
+
+-- the left operand of a stored shift left is of its result's type too
+shiftable-size : (a t : ScalarType) → shiftable a t ≡ true → (x : ℕ) → x < size a → x < size t
+shiftable-size a ty.Bool e x h = absurd (false≢true e)
+shiftable-size ty.Bool (ty.Bits w) e x h = absurd (false≢true e)
+shiftable-size (ty.Bits v) (ty.Bits w) e x h = lt-of-lt-of-le h (pow-mono (leb-true v w e))
+shiftable-size ty.Integer (ty.Bits w) e x h = absurd (false≢true e)
+shiftable-size a ty.Integer e x h = same-size (same-type a ty.Integer e) x h
+
+-- 0 on the right keeps the left operand, a value of the result's type
+abbrev Keeps : Binary → Type 0
+Keeps o =
+    ((a b t : ScalarType) → storedTyped o a b t ≡ true → (x : ℕ) → x < size a → x < size t)
+    × ((t : ScalarType) → typeWidth t ≤ 128 → (x : ℕ) → x < size t → x < 2 ^ 128 → evaluateBinary o t x 0 ≡ some x)
+
+keeps : Each Keeps zeroKeeps
+keeps = (
+  (λ a b t e. same-size (arithmetic-types a b t e .0), λ t h. add-zero t),
+  (
+    (λ a b t e. same-size (arithmetic-types a b t e .0), λ t h. sub-zero t),
+    (
+      (λ a b t e. same-size (same-types a b t e .0), λ t h x s m. or-zero t x s),
+      (
+        (λ a b t e. same-size (same-types a b t e .0), λ t h x s m. xor-zero t x s),
+        (
+          (λ a b t e. shiftable-size a t (tests (shiftable a t) (isNumber b) e .0), λ t h. shift-left-zero t),
+          (
+            (λ a b t e. same-size (shift-type a b t e), λ t h. shift-right-zero t),
+            ((λ a b t e. same-size (shift-type a b t e), λ t h x s m. arithmetic-zero t x (shift-width t h) s), tt),
+          ),
+        ),
+      ),
+    ),
+  ),
+)
+
+-- 0 on the right makes it 0
+abbrev MakesZero : Binary → Type 0
+MakesZero o = (t : ScalarType) (x : ℕ) → evaluateBinary o t x 0 ≡ some 0
+
+makes-zero : Each MakesZero zeroMakesZero
+makes-zero = (and-zero, (mul-zero, tt))
+
+-- ---- masks of masks
+
+-- both operands are of the result's type, and two such operations by constants are one by the constant of these
+abbrev Merges : Binary → Type 0
+Merges o =
+    ((a b t : ScalarType) → storedTyped o a b t ≡ sameTypes a b t)
+    × ((t : ScalarType) (x c d v k : ℕ) → evaluateBinary o t x c ≡ some v → evaluateBinary o t c d ≡ some k → evaluateBinary o t v d ≡ evaluateBinary o t x k)
+
+merges : Each Merges bitwise
+merges = ((λ a b t. refl, and-merged), ((λ a b t. refl, or-merged), ((λ a b t. refl, xor-merged), tt)))
+
+-- a result of type Bits(w) is below 2 ^ w
+evaluated-small : (w : ℕ) (o : Binary) (x y v : ℕ) → evaluateBinary o (ty.Bits w) x y ≡ some v → v < 2 ^ w
+unfolding evaluateBinary
+evaluated-small w o x y v e =
+    let s = mapped-is (reduced (ty.Bits w)) (binaryValue o (ty.Bits w) x y) v e in
+    subst (λ (n : ℕ). n < 2 ^ w) (s .2) (mod-lt (s .0) (pow-pos w))
+
+and-is : (t : ScalarType) (x y : ℕ) → evaluateBinary bi.And t x y ≡ some (reduced t (bitAnd x y))
+unfolding evaluateBinary
+and-is t x y = refl
+
+bits-typed : (w : ℕ) → sameTypes (ty.Bits w) (ty.Bits w) (ty.Bits w) ≡ true
+bits-typed w = rw (eq-eqb w w refl)
+
+-- node n is an operation by a constant
+record Chained (g : List ℕ) (n : ℕ) (c : Chain) : Type 0 where
+  right : ℕ
+  operation : operationAt g n ≡ node.binary (c .op) (c .base) right
+  value : literal g right ≡ some (c .value)
+
+chain-is : (g : List ℕ) (n : ℕ) (c : Chain) → chainAt g n ≡ some c → Chained g n c
+unfolding chainAt
+chain-is g n c e = go (operationAt g n) refl e
+  where
+    go : (o : Op) → operationAt g n ≡ o → chainOf g o ≡ some c → Chained g n c
+    go (node.constant d) q e = absurd (not-there e)
+    go (node.input j) q e = absurd (not-there e)
+    go (node.refine j) q e = absurd (not-there e)
+    go (node.effect j) q e = absurd (not-there e)
+    go (node.slice j o w) q e = absurd (not-there e)
+    go (node.concat j h w) q e = absurd (not-there e)
+    go (node.unary u j) q e = absurd (not-there e)
+    go (node.binary b j h) q e = on (literal g h) refl e
+      where
+        on : (x : Option ℕ) → literal g h ≡ x → chained b j x ≡ some c → Chained g n c
+        on none d e = absurd (not-there e)
+        on (some v) d e = subst (Chained g n) (there e) (record { right = h; operation = q; value = d })
+
+module _ {ρ : Env} {g : List ℕ} (i : Inv ρ g) (n : ℕ) (l : n < countOf g) (c : Chain) (f : Chained g n c) where
+  chain-here : (c .base < countOf g) × (f .right < countOf g)
+  chain-here = let b = below-at ρ g i n l (node.binary (c .op) (c .base) (f .right)) (f .operation) in (omega arith, omega arith)
+
+  chain-typed : storedTyped (c .op) (typeAt g (c .base)) (typeAt g (f .right)) (typeAt g n) ≡ true
+  chain-typed = typed-at ρ g i n l (node.binary (c .op) (c .base) (f .right)) (f .operation)
+
+  chain-means : (v : ℕ) → value ρ g n ≡ some v
+      → (x : ℕ) × (value ρ g (c .base) ≡ some x) × (evaluateBinary (c .op) (typeAt g n) x (c .value) ≡ some v)
+  chain-means v e =
+      let t = typeAt g n in
+      let s = operands ρ g t (c .op) (c .base) (f .right) v (means-at ρ g i n l v e (node.binary (c .op) (c .base) (f .right)) (f .operation)) in
+      let y : s .y ≡ c .value = some-is (sym (s .right) ∙ literal-value ρ g i (f .right) (c .value) (chain-here .1) (f .value)) in
+      let q = then-is (evaluateBinary (c .op) t (s .x) (s .y)) (ofType t) v (s .means) in
+      (s .x, s .left, ap (evaluateBinary (c .op) t (s .x)) (sym y) ∙ q .1 ∙ ap some (sym (typed-is t (q .0) v (q .2) .0)))
+
+-- ---- what the operator gives
+
+truth-is : (b : Option Bool) (p : Plan) → truthPlan b ≡ some p → (truth : Bool) × (b ≡ some truth) × (plan.constant ty.Bool (fromBool truth) ≡ p)
+truth-is none p e = absurd (not-there e)
+truth-is (some truth) p e = (truth, refl, there e)
+
+truth-small : (b : Bool) → fromBool b < 2
+truth-small true = omega arith
+truth-small false = omega arith
+
+module _ {ρ : Env} {g : List ℕ} (i : Inv ρ g) (t : ScalarType) (o : Binary) (l r : ℕ) (k : Callable g (binary t o l r)) where
+  -- what is asked for
+  abbrev Asked : Plan → Type 0
+  Asked p = Claim ρ g t (binaryMeans t o (value ρ g l) (value ρ g r)) p
+
+  -- the operator gives this of the operands' values
+  abbrev Gives : (ℕ → ℕ → ℕ) → Type 0
+  Gives f = (x y : ℕ) → value ρ g l ≡ some x → value ρ g r ≡ some y → evaluateBinary o t x y ≡ some (f x y)
+
+  module _ (f : ℕ → ℕ → ℕ) (gives : Gives f) (v : ℕ) (e : binaryMeans t o (value ρ g l) (value ρ g r) ≡ some v) where
+    given-is : (x : ℕ) × (y : ℕ) × (value ρ g l ≡ some x) × (value ρ g r ≡ some y) × (v ≡ f x y) × (v < size t)
+    given-is =
+        let s = operands ρ g t o l r v e in
+        let q = typed-is t (f (s .x) (s .y)) v (sym (ap (λ (a : Option ℕ). andThen a (ofType t)) (gives (s .x) (s .y) (s .left) (s .right))) ∙ s .means) in
+        (s .x, s .y, s .left, s .right, q .0, q .1)
+
+  constant-claim : (c : ℕ) → c < size t → Gives (λ x y. c) → Asked (plan.constant t c)
+  constant-claim c h gives = (
+    refl,
+    record { width = k .0; small = rw (reduced-same t c h) h },
+    λ v e. let s = given-is (λ x y. c) gives v e in ap some (reduced-same t c h ∙ sym (s .4)),
+  )
+
+  keep-claim : Gives (λ x y. x) → Asked (plan.identity t l)
+  keep-claim gives = (
+    (k .0, k .1),
+    refl,
+    λ v e.
+        let s = given-is (λ x y. x) gives v e in
+        rw (s .2) (ap (valued t) (sym (s .4)) ∙ valued-same t v (s .5)),
+  )
+
+  give-left : typeAt g l ≡ t → Gives (λ x y. x) → Asked (plan.give l)
+  give-left s gives = record { here = k .1; type = s; means = λ v e. let s = given-is (λ x y. x) gives v e in s .2 ∙ ap some (sym (s .4)) }
+
+  give-right : typeAt g r ≡ t → Gives (λ x y. y) → Asked (plan.give r)
+  give-right s gives = record { here = k .2; type = s; means = λ v e. let s = given-is (λ x y. y) gives v e in s .3 ∙ ap some (sym (s .4)) }
+
+  -- true or false
+  truth-claim : (c : ℕ) → c < 2 → t ≡ ty.Bool
+      → ((x y : ℕ) → value ρ g l ≡ some x → value ρ g r ≡ some y → evaluateBinary o ty.Bool x y ≡ some c) → Asked (plan.constant ty.Bool c)
+  truth-claim c h b gives =
+      subst Asked (ap (λ (s : ScalarType). plan.constant s c) b)
+      (constant-claim c (same-size (sym b) c h) (λ x y ex ey. ap (λ (s : ScalarType). evaluateBinary o s x y) b ∙ gives x y ex ey))
+
+  -- And, Or and Xor are of operands of their own type
+  bit-types : Merges o → (typeAt g l ≡ t) × (typeAt g r ≡ t)
+  bit-types m = same-types (typeAt g l) (typeAt g r) t (sym (m .0 (typeAt g l) (typeAt g r) t) ∙ k .3)
+
+  -- ---- ranges
+
+  pub compared-claim : (p : Plan) → comparedPlan o (rangeAt g l) (rangeAt g r) ≡ some p
+      → Claim ρ g t (binaryMeans t o (value ρ g l) (value ρ g r)) p
+  compared-claim p e =
+      let d = truth-is (bothGiven (rangeAt g l) (rangeAt g r) (comparison o)) p e in
+      let f = both-given (comparison o) (rangeAt g l) (rangeAt g r) (d .0) (d .1) in
+      let s = compares o (f .0) (f .1) (d .0) (f .4) (typeAt g l) (typeAt g r) t (k .3) in
+      subst Asked (d .2)
+      (truth-claim (fromBool (d .0)) (truth-small (d .0)) (s .0)
+      (λ x y ex ey.
+      comparison-sound o (typeAt g l) x y (f .0) (f .1) (d .0) (value-pattern i l (k .1) x ex) (value-pattern i r (k .2) y ey)
+      (i .ranged l (k .1) x ex (f .0) (f .2))
+      (rw (s .1) (i .ranged r (k .2) y ey (f .1) (f .3))) (i .ends l (k .1) (f .0) (f .2)) (i .ends r (k .2) (f .1) (f .3)) (f .4)))
+
+  -- ---- one node twice
+
+  module _ (same : l ≡ r) where
+    -- what the operator gives of one value twice
+    twice-gives : (s : ScalarType) (f : ℕ → ℕ) → ((x : ℕ) → value ρ g l ≡ some x → evaluateBinary o s x x ≡ some (f x))
+        → (x y : ℕ) → value ρ g l ≡ some x → value ρ g r ≡ some y → evaluateBinary o s x y ≡ some (f x)
+    twice-gives s f h x y ex ey =
+        let q : y ≡ x = some-is (sym ey ∙ ap (value ρ g) (sym same) ∙ ex) in
+        ap (evaluateBinary o s x) q ∙ h x ex
+
+    zero-twice : ((x : ℕ) → x < 2 ^ 128 → evaluateBinary o t x x ≡ some 0) → {p : Plan} → plan.constant t 0 ≡ p → Asked p
+    zero-twice h e = subst Asked e (constant-claim 0 (size-pos t) (twice-gives t (λ x. 0) (λ x ex. h x (value-pattern i l (k .1) x ex))))
+
+    keep-twice : Merges o → ((x : ℕ) → x < size t → evaluateBinary o t x x ≡ some x) → {p : Plan} → plan.identity t l ≡ p → Asked p
+    keep-twice m h e = subst Asked e (keep-claim (twice-gives t (λ x. x) (λ x ex. h x (same-size (bit-types m .0) x (value-small i l (k .1) x ex)))))
+
+    truth-twice : (c : ℕ) → c < 2 → ((x : ℕ) → evaluateBinary o ty.Bool x x ≡ some c) → typing.comparison (typeAt g l) (typeAt g r) t ≡ true → {p : Plan}
+        → plan.constant ty.Bool c ≡ p → Asked p
+    truth-twice c small h s e =
+        subst Asked e (truth-claim c small (compared-types (typeAt g l) (typeAt g r) t s .0) (twice-gives ty.Bool (λ x. c) (λ x ex. h x)))
+
+  -- ---- a constant on the right
+
+  -- And or Or with all ones
+  ones-facts : {A : Type 0} (u v p : A) → cond (sameBinary o bi.And) (some u) (only (sameBinary o bi.Or) v) ≡ some p
+      → ((o ≡ bi.And) × (u ≡ p)) ⊎ ((o ≡ bi.Or) × (v ≡ p))
+  ones-facts {A} u v p = go (sameBinary o bi.And) refl (sameBinary o bi.Or) refl
+    where
+      go : (a : Bool) → sameBinary o bi.And ≡ a → (b : Bool) → sameBinary o bi.Or ≡ b → cond a (some u) (only b v) ≡ some p
+          → ((o ≡ bi.And) × (u ≡ p)) ⊎ ((o ≡ bi.Or) × (v ≡ p))
+      go true q b d e = inl (binary-is o bi.And q, there e)
+      go false q true d e = inr (binary-is o bi.Or d, there e)
+      go false q false d e = absurd (not-there e)
+
+  module _ (c : ℕ) (lit : literal g r ≡ some c) where
+    -- what the operator gives of a value and the constant
+    right-gives : (f : ℕ → ℕ) → ((x : ℕ) → value ρ g l ≡ some x → evaluateBinary o t x c ≡ some (f x)) → Gives (λ x y. f x)
+    right-gives f h x y ex ey =
+        let q : y ≡ c = some-is (sym ey ∙ literal-value ρ g i r c (k .2) lit) in
+        ap (evaluateBinary o t x) q ∙ h x ex
+
+    zero-claim : c ≡ 0 → (p : Plan) → zeroPlan t o l ≡ some p → Asked p
+    zero-claim z p e = go (isAny zeroKeeps o) refl (isAny zeroMakesZero o) refl e
+      where
+        by : (f : ℕ → ℕ) → ((x : ℕ) → value ρ g l ≡ some x → evaluateBinary o t x 0 ≡ some (f x)) → Gives (λ x y. f x)
+        by f h = right-gives f (λ x ex. ap (evaluateBinary o t x) z ∙ h x ex)
+
+        go : (a : Bool) → isAny zeroKeeps o ≡ a → (b : Bool) → isAny zeroMakesZero o ≡ b
+            → cond a (some (plan.identity t l)) (only b (plan.constant t 0)) ≡ some p → Asked p
+        go true q b d e =
+            let h : Keeps o = any-each Keeps zeroKeeps keeps o q in
+            subst Asked (there e)
+            (keep-claim
+            (by (λ x. x)
+            (λ x ex.
+            h .1 t (k .0) x (h .0 (typeAt g l) (typeAt g r) t (k .3) x (value-small i l (k .1) x ex)) (value-pattern i l (k .1) x ex))))
+        go false q true d e =
+            let h : MakesZero o = any-each MakesZero zeroMakesZero makes-zero o d in
+            subst Asked (there e) (constant-claim 0 (size-pos t) (by (λ x. 0) (λ x ex. h t x)))
+        go false q false d e = absurd (not-there e)
+
+pub twice-claim : {ρ : Env} {g : List ℕ} (i : Inv ρ g) (t : ScalarType) (o : Binary) (l r : ℕ) (k : Callable g (binary t o l r)) → l ≡ r → (p : Plan)
+    → twice t o l ≡ some p → Claim ρ g t (binaryMeans t o (value ρ g l) (value ρ g r)) p
+twice-claim i t bi.Add l r k q p e = absurd (not-there e)
+twice-claim i t bi.Sub l r k q p e = zero-twice i t bi.Sub l r k q (sub-twice t) (there e)
+twice-claim i t bi.Mul l r k q p e = absurd (not-there e)
+twice-claim i t bi.And l r k q p e = keep-twice i t bi.And l r k q (merges .0) (and-twice t) (there e)
+twice-claim i t bi.Or l r k q p e = keep-twice i t bi.Or l r k q (merges .1 .0) (or-twice t) (there e)
+twice-claim i t bi.Xor l r k q p e = zero-twice i t bi.Xor l r k q (λ x m. xor-twice t x) (there e)
+twice-claim i t bi.ShiftLeft l r k q p e = absurd (not-there e)
+twice-claim i t bi.ShiftRight l r k q p e = absurd (not-there e)
+twice-claim i t bi.ArithmeticShiftRight l r k q p e = absurd (not-there e)
+twice-claim i t bi.Equal l r k q p e = truth-twice i t bi.Equal l r k q 1 (omega arith) equal-twice (k .3) (there e)
+twice-claim i t bi.NotEqual l r k q p e = truth-twice i t bi.NotEqual l r k q 0 (omega arith) not-equal-twice (k .3) (there e)
+twice-claim i t bi.LessSigned l r k q p e = truth-twice i t bi.LessSigned l r k q 0 (omega arith) less-signed-twice (k .3) (there e)
+twice-claim i t bi.LessUnsigned l r k q p e = truth-twice i t bi.LessUnsigned l r k q 0 (omega arith) less-unsigned-twice (k .3) (there e)
+twice-claim i t bi.LessEqualSigned l r k q p e = truth-twice i t bi.LessEqualSigned l r k q 1 (omega arith) at-most-signed-twice (k .3) (there e)
+twice-claim i t bi.LessEqualUnsigned l r k q p e = truth-twice i t bi.LessEqualUnsigned l r k q 1 (omega arith) at-most-unsigned-twice (k .3) (there e)
+twice-claim i t bi.DivideSigned l r k q p e = absurd (not-there e)
+twice-claim i t bi.RemainderSigned l r k q p e = absurd (not-there e)
+twice-claim i t bi.DivideUnsigned l r k q p e = absurd (not-there e)
+twice-claim i t bi.RemainderUnsigned l r k q p e = absurd (not-there e)
+
+-- ---- all ones on the right
+
+module _ {ρ : Env} {g : List ℕ} (i : Inv ρ g) where
+  ones-claim : (t : ScalarType) (o : Binary) (l r : ℕ) (k : Callable g (binary t o l r)) (c : ℕ) → literal g r ≡ some c → (p : Plan)
+      → onesPlan t o l r c ≡ some p → Claim ρ g t (binaryMeans t o (value ρ g l) (value ρ g r)) p
+  ones-claim ty.Bool o l r k c lit p e =
+      let d = provided-is (eqb c 1) (cond (sameBinary o bi.And) (some (plan.give l)) (only (sameBinary o bi.Or) (plan.give r))) e in
+      ⊎-elim
+      (λ (h : (o ≡ bi.And) × (plan.give l ≡ p)).
+      let s = bit-types i ty.Bool o l r k (subst Merges (sym (h .0)) (merges .0)) .0 in
+      subst (Asked i ty.Bool o l r k) (h .1)
+      (give-left i ty.Bool o l r k s
+      (right-gives i ty.Bool o l r k c lit (λ x. x)
+      (λ x ex. (λ j. evaluateBinary (h .0 j) ty.Bool x (eqb-true c 1 (d .0) j)) ∙ and-true x (same-size s x (value-small i l (k .1) x ex))))))
+      (λ (h : (o ≡ bi.Or) × (plan.give r ≡ p)).
+      let s = bit-types i ty.Bool o l r k (subst Merges (sym (h .0)) (merges .1 .0)) in
+      subst (Asked i ty.Bool o l r k) (h .1)
+      (give-right i ty.Bool o l r k (s .1)
+      (λ x y ex ey.
+      let q : y ≡ 1 = some-is (sym ey ∙ literal-value ρ g i r c (k .2) lit) ∙ eqb-true c 1 (d .0) in
+      (λ j. evaluateBinary (h .0 j) ty.Bool x (q j)) ∙ or-true x (same-size (s .0) x (value-small i l (k .1) x ex)) ∙ ap some (sym q))))
+      (ones-facts i ty.Bool o l r k (plan.give l) (plan.give r) p (d .1))
+  ones-claim (ty.Bits w) o l r k c lit p e =
+      let t = ty.Bits w in
+      let d = provided-is (eqb c (mask w)) (cond (sameBinary o bi.And) (some (plan.identity t l)) (only (sameBinary o bi.Or) (plan.constant t (mask w)))) e in
+      let m : mask w ≡ 2 ^ w - 1 = mask-is w (k .0) in
+      let n : c ≡ 2 ^ w - 1 = eqb-true c (mask w) (d .0) ∙ m in
+      ⊎-elim
+      (λ (h : (o ≡ bi.And) × (plan.identity t l ≡ p)).
+      let s = bit-types i t o l r k (subst Merges (sym (h .0)) (merges .0)) .0 in
+      subst (Asked i t o l r k) (h .1)
+      (keep-claim i t o l r k
+      (right-gives i t o l r k c lit (λ x. x)
+      (λ x ex. (λ j. evaluateBinary (h .0 j) t x (n j)) ∙ and-ones w x (same-size s x (value-small i l (k .1) x ex))))))
+      (λ (h : (o ≡ bi.Or) × (plan.constant t (mask w) ≡ p)).
+      let s = bit-types i t o l r k (subst Merges (sym (h .0)) (merges .1 .0)) .0 in
+      subst (Asked i t o l r k) (h .1)
+      (constant-claim i t o l r k (mask w) (subst (λ (v : ℕ). v < 2 ^ w) (sym m) (ones-lt w))
+      (right-gives i t o l r k c lit (λ x. mask w)
+      (λ x ex. (λ j. evaluateBinary (h .0 j) t x (n j)) ∙ or-ones w x (same-size s x (value-small i l (k .1) x ex)) ∙ ap some (sym m)))))
+      (ones-facts i t o l r k (plan.identity t l) (plan.constant t (mask w)) p (d .1))
+  ones-claim ty.Integer o l r k c lit p e = absurd (not-there e)
+
+or-is : (a b : Option Plan) (p : Plan) → orPlan a b ≡ some p → (a ≡ some p) ⊎ (b ≡ some p)
+or-is none b p e = inr e
+or-is (some q) b p e = inl e
+
+pub right-claim : {ρ : Env} {g : List ℕ} (i : Inv ρ g) (t : ScalarType) (o : Binary) (l r : ℕ) (k : Callable g (binary t o l r)) (c : ℕ)
+    → literal g r ≡ some c → (p : Plan) → rightPlan t o l r c ≡ some p → Claim ρ g t (binaryMeans t o (value ρ g l) (value ρ g r)) p
+right-claim i t o l r k c lit p e =
+    ⊎-elim
+    (λ (h : provided (eqb c 0) (zeroPlan t o l) ≡ some p).
+    let d = provided-is (eqb c 0) (zeroPlan t o l) h in
+    zero-claim i t o l r k c lit (eqb-true c 0 (d .0)) p (d .1))
+    (λ (h : onesPlan t o l r c ≡ some p). ones-claim i t o l r k c lit p h)
+    (or-is (provided (eqb c 0) (zeroPlan t o l)) (onesPlan t o l r c) p e)
+
+-- ---- an operation by a constant of an operation by a constant
+
+module _ {ρ : Env} {g : List ℕ} (i : Inv ρ g) (w : ℕ) (o : Binary) (l r : ℕ) (k : Callable g (binary (ty.Bits w) o l r)) (b : ℕ) (lit : literal g r ≡ some b)
+    (c : Chain) (f : Chained g l c) where
+  -- its value, if there is one, by the base's
+  pair-means : typeAt g l ≡ ty.Bits w → (v : ℕ) → binaryMeans (ty.Bits w) o (value ρ g l) (value ρ g r) ≡ some v
+      → (y : ℕ) × (x : ℕ) × (value ρ g (c .base) ≡ some x) × (evaluateBinary (c .op) (ty.Bits w) x (c .value) ≡ some y)
+      × (andThen (evaluateBinary o (ty.Bits w) y b) (ofType (ty.Bits w)) ≡ some v)
+  pair-means s v e =
+      let d = operands ρ g (ty.Bits w) o l r v e in
+      let q : d .y ≡ b = some-is (sym (d .right) ∙ literal-value ρ g i r b (k .2) lit) in
+      let h = chain-means i l (k .1) c f (d .x) (d .left) in (
+        d .x,
+        h .0,
+        h .1,
+        ap (λ (a : ScalarType). evaluateBinary (c .op) a (h .0) (c .value)) (sym s) ∙ h .2,
+        ap (λ (n : ℕ). andThen (evaluateBinary o (ty.Bits w) (d .x) n) (ofType (ty.Bits w))) (sym q) ∙ d .means,
+      )
+
+  -- the types of both
+  pair-types : Merges o → Merges (c .op) → (typeAt g l ≡ ty.Bits w) × (typeAt g r ≡ ty.Bits w) × (typeAt g (c .base) ≡ ty.Bits w)
+  pair-types m n =
+      let s = bit-types i (ty.Bits w) o l r k m in
+      let q = same-types (typeAt g (c .base)) (typeAt g (f .right)) (typeAt g l)
+      (sym (n .0 (typeAt g (c .base)) (typeAt g (f .right)) (typeAt g l)) ∙ chain-typed i l (k .1) c f) in
+      (s .0, s .1, q .0 ∙ s .0)
+
+  merged-claim : c .op ≡ o → Merges o → Asked i (ty.Bits w) o l r k (mergedPlan (ty.Bits w) o (c .base) (evaluateBinary o (ty.Bits w) (c .value) b))
+  merged-claim q m = go (evaluateBinary o (ty.Bits w) (c .value) b) refl
+    where
+      go : (a : Option ℕ) → evaluateBinary o (ty.Bits w) (c .value) b ≡ a → Asked i (ty.Bits w) o l r k (mergedPlan (ty.Bits w) o (c .base) a)
+      go none e = tt
+      go (some u) e =
+          let s = pair-types m (subst Merges (sym q) m) in
+          let h : u < 2 ^ w = evaluated-small w o (c .value) b u e in
+          let h′ : reduced (ty.Bits w) u ≡ u = reduced-same (ty.Bits w) u h in (
+            record { width = k .0; small = mod-lt u (pow-pos w) },
+            refl,
+            k .0,
+            chain-here i l (k .1) c f .0,
+            m .0 (typeAt g (c .base)) (ty.Bits w) (ty.Bits w) ∙ ap (λ (a : ScalarType). sameTypes a (ty.Bits w) (ty.Bits w)) (s .2) ∙ bits-typed w,
+            λ v d.
+                let z = pair-means (s .0) v d in
+                let n : evaluateBinary o (ty.Bits w) (z .0) b ≡ evaluateBinary o (ty.Bits w) (z .1) u =
+                m .1 (ty.Bits w) (z .1) (c .value) b (z .0) u (ap (λ (a : Binary). evaluateBinary a (ty.Bits w) (z .1) (c .value)) (sym q) ∙ z .3) e in
+                (λ j. binaryMeans (ty.Bits w) o (z .2 j) (some (h′ j))) ∙ ap (λ (a : Option ℕ). andThen a (ofType (ty.Bits w))) (sym n) ∙ z .4,
+          )
+
+  and-or-claim : c .op ≡ bi.Or → o ≡ bi.And → Asked i (ty.Bits w) o l r k (plan.andOr (ty.Bits w) (c .base) r (bitAnd (c .value) b))
+  and-or-claim q d =
+      let s = pair-types (subst Merges (sym d) (merges .0)) (subst Merges (sym q) (merges .1 .0)) in (
+        (
+          k .0,
+          chain-here i l (k .1) c f .0,
+          k .2,
+          (λ j. sameTypes (s .2 j) (s .1 j) (ty.Bits w)) ∙ bits-typed w,
+        ),
+        refl,
+        record { width = k .0; small = mod-lt (bitAnd (c .value) b) (pow-pos w) },
+        bits-typed w,
+        λ v e.
+            let z = pair-means (s .0) v e in
+            let u = reduced (ty.Bits w) (bitAnd (z .1) b) in
+            let n = reduced (ty.Bits w) (bitAnd (c .value) b) in
+            let h : evaluateBinary bi.And (ty.Bits w) (z .0) b ≡ evaluateBinary bi.Or (ty.Bits w) u n =
+            and-of-or-merged (ty.Bits w) (z .1) (c .value) b (z .0) u (ap (λ (a : Binary). evaluateBinary a (ty.Bits w) (z .1) (c .value)) (sym q) ∙ z .3)
+            (and-is (ty.Bits w) (z .1) b) n (and-is (ty.Bits w) (c .value) b) in
+            let first : binaryMeans (ty.Bits w) bi.And (value ρ g (c .base)) (value ρ g r) ≡ some u =
+            (λ j. binaryMeans (ty.Bits w) bi.And (z .2 j) (literal-value ρ g i r b (k .2) lit j))
+            ∙ ap (λ (a : Option ℕ). andThen a (ofType (ty.Bits w))) (and-is (ty.Bits w) (z .1) b)
+            ∙ typed-of (ty.Bits w) u (mod-lt (bitAnd (z .1) b) (pow-pos w)) in
+            ap (λ (a : Option ℕ). binaryMeans (ty.Bits w) bi.Or a (some n)) first
+            ∙ ap (λ (a : Option ℕ). andThen a (ofType (ty.Bits w))) (sym h ∙ ap (λ (a : Binary). evaluateBinary a (ty.Bits w) (z .0) b) (sym d)) ∙ z .4,
+      )
+
+  mask-twice : (p : Plan) → maskTwice (ty.Bits w) o r b c ≡ some p → Asked i (ty.Bits w) o l r k p
+  mask-twice p e = go (both (sameBinary (c .op) o) (isAny bitwise o)) refl (both (sameBinary (c .op) bi.Or) (sameBinary o bi.And)) refl e
+    where
+      go : (x : Bool) → both (sameBinary (c .op) o) (isAny bitwise o) ≡ x → (y : Bool) → both (sameBinary (c .op) bi.Or) (sameBinary o bi.And) ≡ y
+          → cond x (some (mergedPlan (ty.Bits w) o (c .base) (evaluateBinary o (ty.Bits w) (c .value) b)))
+          (only y (plan.andOr (ty.Bits w) (c .base) r (bitAnd (c .value) b))) ≡ some p → Asked i (ty.Bits w) o l r k p
+      go true q y d e =
+          let h = tests (sameBinary (c .op) o) (isAny bitwise o) q in
+          subst (Asked i (ty.Bits w) o l r k) (there e) (merged-claim (binary-is (c .op) o (h .0)) (any-each Merges bitwise merges o (h .1)))
+      go false q true d e =
+          let h = tests (sameBinary (c .op) bi.Or) (sameBinary o bi.And) d in
+          subst (Asked i (ty.Bits w) o l r k) (there e) (and-or-claim (binary-is (c .op) bi.Or (h .0)) (binary-is o bi.And (h .1)))
+      go false q false d e = absurd (not-there e)
+
+pub mask-claim : {ρ : Env} {g : List ℕ} (i : Inv ρ g) (t : ScalarType) (o : Binary) (l r : ℕ) (k : Callable g (binary t o l r)) (c : ℕ)
+    → literal g r ≡ some c → (p : Plan) → maskPlan g t o l r c ≡ some p → Claim ρ g t (binaryMeans t o (value ρ g l) (value ρ g r)) p
+mask-claim i ty.Bool o l r k c lit p e = absurd (not-there e)
+mask-claim {ρ} {g} i (ty.Bits w) o l r k c lit p e = go (chainAt g l) refl e
+  where
+    go : (a : Option Chain) → chainAt g l ≡ a → given a (maskTwice (ty.Bits w) o r c) none ≡ some p → Asked i (ty.Bits w) o l r k p
+    go none q e = absurd (not-there e)
+    go (some d) q e = mask-twice i w o l r k c lit d (chain-is g l d q) p e
+mask-claim i ty.Integer o l r k c lit p e = absurd (not-there e)

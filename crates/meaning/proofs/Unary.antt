@@ -1,0 +1,491 @@
+-- Ends of derived ranges, results of their types, and that unary's plans claim what is asked of them. Assumes nothing.
+use mathlib.Core.Path.{_≡_, refl, sym, ap, _∙_, subst}
+use mathlib.Core.Bool.{Bool, true, false, not, false≢true}
+use mathlib.Core.List.{List}
+use mathlib.Core.Option.{Option, none, some}
+use Prim.Native.Nat.{ℕ, _+_, _-_, _*_, _%_, _^_, _≤_, _<_}
+use native.Mathlib.Nat.{lt-of-lt-of-le, lt-of-le-of-lt, mod-lt, mod-le, div-le-self}
+use native.Mathlib.Omega.{arith}
+use borrow.Author.Tests.{ltb-true, leb-true, ne-eqb}
+use lib.Bits.{and-lt, or-lt, xor-lt}
+use lib.Count.{leading-le, trailing-le}
+use lib.Dec.{ltb, leb, eqb, lit<}
+use lib.IntN.{ℤ, pos, negsuc, natAbs, negℤ, _-ℤ_}
+use lib.Pow.{pow-pos, pow-mono}
+use lib.Signed.{mag, leZ, ltZ, _≤ℤ_, mag-shr}
+use Rattle.word.specs.Value.{residue, signed, fitted, only, provided, quotient, minZ, maxZ}
+use Rattle.word.proofs.Integer.{residue-lt, residue-pos, signed-low, half-twice}
+use Rattle.range.specs.Interval.{Interval, both, nonnegative, typeInterval, filtered, signExtended, between, addInterval, subInterval, negInterval, cornersOf, mulInterval, divisible, quotInterval, cut, cutTo, remInterval, andInterval, udivInterval, atMost, uremInterval, clamped, shifted, shlInterval, shrInterval}
+use Rattle.range.specs.declared.ScalarType.{ScalarType}
+use Rattle.range.specs.declared.ScalarType.the-variants as ty
+use Rattle.range.proofs.Order.{orders, extremes, le-min, max-le}
+use Rattle.range.proofs.Sound.{tests}
+use Rattle.evaluate.specs.Evaluate.{fromBool, mapped, reduced, orZero, toU32, extended, signExtended as extend, leadingIn, trailingIn, signedly, shiftedLeft, shiftedRight, arithmeticShift, binaryValue, evaluateUnary, evaluateBinary}
+use Rattle.evaluate.specs.I128 as i128
+use Rattle.evaluate.specs.Operator.{typeWidth, unaryWidth}
+use Rattle.evaluate.specs.declared.Unary.{Unary}
+use Rattle.evaluate.specs.declared.Unary.the-variants as un
+use Rattle.evaluate.specs.declared.Binary.{Binary}
+use Rattle.evaluate.specs.declared.Binary.the-variants as bi
+use Rattle.evaluate.proofs.Fields.{negative-below, extended-field}
+use Rattle.graph.specs.Layout.{countOf}
+use Rattle.graph.specs.Node as node
+use Rattle.graph.specs.Node.{typeAt, rangeAt}
+use Rattle.graph.specs.Insert.{literal, orElse}
+use Rattle.fold.specs.Shape.{sameType}
+use Rattle.fold.specs.Range.{bothGiven, heldTo, bitsRule, integerRule, unaryRange, binaryRange}
+use Rattle.native.specs.Typing.{isBits, isNumber, unaryTyped}
+use Rattle.plan.specs.Plan.{constantOr}
+use Rattle.plan.specs.Single.{isView, addOr, unaryPlan}
+use Rattle.meaning.specs.Value.{Env, size, valued, andThen, unaryMeans, value}
+use Rattle.meaning.proofs.Values.{typed-is, then-is}
+use Rattle.meaning.proofs.Invariant.{storedTyped, Ends, Inv, Storable}
+use Rattle.meaning.proofs.Constants.{stored-low, stored-high}
+use Rattle.meaning.proofs.Plans.{Covers, Claim}
+use Rattle.meaning.proofs.Views.{same-type, value-small, value-pattern, by-test, covers-truncate, fits-facts, fits-small}
+use Rattle.meaning.proofs.Ranges.{not-there, there, provided-is, mapped-is, both-given, fitted-is, quotient-is, type-ends, unary-within}
+use Rattle.meaning.proofs.Field.{literal-value}
+
+-- ---- what holds of an answer, if there is one
+
+abbrev Each : {A : Type 0} → (A → Type 0) → Option A → Type 0
+Each {A} P o = (a : A) → o ≡ some a → P a
+
+module _ {A : Type 0} (P : A → Type 0) where
+  each-none : Each P none
+  each-none a e = absurd (not-there e)
+
+  each-some : (b : A) → P b → Each P (some b)
+  each-some b h a e = subst P (there e) h
+
+  each-if : (t : Bool) (o : Option A) → Each P o → Each P (provided t o)
+  each-if t o h a e = h a (provided-is t o e .1)
+
+each-mapped : {A B : Type 0} (P : B → Type 0) (f : A → B) (o : Option A) → Each (λ a. P (f a)) o → Each P (mapped f o)
+each-mapped P f o h b e = let (a, p, q) = mapped-is f o b e in subst P q (h a p)
+
+-- ---- ends of 128 bits
+
+abbrev Small : ℤ → Type 0
+Small z = mag z < 2 ^ 127
+
+min-small : (x y : ℤ) → Small x → Small y → Small (minZ x y)
+min-small x y f g = by-test Small (ltZ y x) (λ e. g) (λ e. f)
+
+max-small : (x y : ℤ) → Small x → Small y → Small (maxZ x y)
+max-small x y f g = by-test Small (ltZ y x) (λ e. f) (λ e. g)
+
+-- no integer between two is larger in size than both
+between-small : (h : ℕ) (x y z : ℤ) → x ≤ℤ z → z ≤ℤ y → mag x < h → mag y < h → mag z < h
+between-small h x (pos m) (pos n) p q f g = omega orders
+between-small h x (negsuc m) (pos n) p q f g = absurd (omega orders)
+between-small h (pos m) y (negsuc n) p q f g = absurd (omega orders)
+between-small h (negsuc m) y (negsuc n) p q f g = omega orders
+
+fitted-small : (z : ℤ) → Each Small (fitted z)
+fitted-small z u e = fitted-is z u e .1
+
+quotient-small : (x y : ℤ) → Each Small (quotient x y)
+quotient-small x y u e = quotient-is x y u e .1
+
+shifted-small : (z n : ℤ) → Each Small (shifted z n)
+unfolding shifted
+shifted-small z n = each-if Small (ltb (clamped n) 127) _ (fitted-small _)
+
+between-ends : (o p : Option ℤ) → Each Small o → Each Small p → Each Ends (between o p)
+between-ends none p f g = each-none Ends
+between-ends (some l) none f g = each-none Ends
+between-ends (some l) (some h) f g = each-some Ends _ (record { low = f l refl; high = g h refl })
+
+corners-ends : (o p q r : Option ℤ) → Each Small o → Each Small p → Each Small q → Each Small r → Each Ends (cornersOf o p q r)
+corners-ends none p q r a b c d = each-none Ends
+corners-ends (some i) none q r a b c d = each-none Ends
+corners-ends (some i) (some j) none r a b c d = each-none Ends
+corners-ends (some i) (some j) (some k) none a b c d = each-none Ends
+corners-ends (some i) (some j) (some k) (some l) a b c d =
+    each-some Ends _ (record {
+      low = min-small (minZ i j) (minZ k l) (min-small i j (a i refl) (b j refl)) (min-small k l (c k refl) (d l refl));
+      high = max-small (maxZ i j) (maxZ k l) (max-small i j (a i refl) (b j refl)) (max-small k l (c k refl) (d l refl));
+    })
+
+at-most-small : (z : ℤ) (o : Option ℤ) → Small z → Each Small o → Each Small (atMost z o)
+at-most-small z none f g = each-none Small
+at-most-small z (some m) f g = each-some Small _ (min-small z m f (g m refl))
+
+-- a range cut to a size, stretched to 0, goes no further than its ends and 0
+cut-ends : (a : Interval) (m : ℤ) → Ends a → Ends (cut a m)
+cut-ends a m e = record {
+  low =
+      let x = maxZ (a .low) (pos 1 -ℤ m) in
+      between-small (2 ^ 127) (minZ (a .low) (pos 0)) (pos 0) (minZ x (pos 0))
+      (le-min x (pos 0) _ (omega (orders, extremes (a .low) (pos 0), extremes (a .low) (pos 1 -ℤ m))) (extremes (a .low) (pos 0) .1))
+      (extremes x (pos 0) .1) (min-small (a .low) (pos 0) (e .low) (pow-pos 127)) (pow-pos 127);
+  high =
+      let x = minZ (a .high) (m -ℤ pos 1) in
+      between-small (2 ^ 127) (pos 0) (maxZ (a .high) (pos 0)) (maxZ x (pos 0)) (extremes x (pos 0) .3)
+      (max-le x (pos 0) _ (omega (orders, extremes (a .high) (pos 0), extremes (a .high) (m -ℤ pos 1))) (extremes (a .high) (pos 0) .3))
+      (pow-pos 127) (max-small (a .high) (pos 0) (e .high) (pow-pos 127));
+}
+
+cut-to-ends : (a : Interval) (o p : Option ℤ) → Ends a → Each Ends (cutTo a o p)
+cut-to-ends a none p e = each-none Ends
+cut-to-ends a (some m) none e = each-none Ends
+cut-to-ends a (some m) (some n) e = each-some Ends _ (cut-ends a (maxZ m n) e)
+
+-- ---- ends of the rules' ranges
+
+module _ (a b : Interval) (f : Ends a) (g : Ends b) where
+  add-ends : Each Ends (addInterval a b)
+  unfolding addInterval
+  add-ends = between-ends _ _ (fitted-small _) (fitted-small _)
+
+  sub-ends : Each Ends (subInterval a b)
+  unfolding subInterval
+  sub-ends = between-ends _ _ (fitted-small _) (fitted-small _)
+
+  mul-ends : Each Ends (mulInterval a b)
+  unfolding mulInterval
+  mul-ends = corners-ends _ _ _ _ (fitted-small _) (fitted-small _) (fitted-small _) (fitted-small _)
+
+  and-ends : Each Ends (andInterval a b)
+  unfolding andInterval
+  and-ends =
+      each-if Ends (both (nonnegative a) (nonnegative b)) _ (between-ends _ _ (each-some Small _ (pow-pos 127)) (each-some Small _ (min-small (a .high) (b .high) (f .high) (g .high))))
+
+  quot-ends : Each Ends (quotInterval a b)
+  unfolding quotInterval
+  quot-ends = each-if Ends (divisible a b) _ (corners-ends _ _ _ _ (quotient-small _ _) (quotient-small _ _) (quotient-small _ _) (quotient-small _ _))
+
+  rem-ends : Each Ends (remInterval a b)
+  unfolding remInterval
+  rem-ends = each-if Ends (divisible a b) _ (cut-to-ends a (fitted (pos (natAbs (b .low)))) (fitted (pos (natAbs (b .high)))) f)
+
+  udiv-ends : Each Ends (udivInterval a b)
+  unfolding udivInterval
+  udiv-ends = each-if Ends (both (nonnegative a) (ltZ (pos 0) (b .low))) _ (between-ends _ _ (each-some Small _ (pow-pos 127)) (quotient-small _ _))
+
+  urem-ends : Each Ends (uremInterval a b)
+  unfolding uremInterval
+  urem-ends = each-if Ends (both (nonnegative a) (ltZ (pos 0) (b .low))) _ (between-ends _ _ (each-some Small _ (pow-pos 127)) (at-most-small (a .high) _ (f .high) (fitted-small _)))
+
+  shl-ends : Each Ends (shlInterval a b)
+  unfolding shlInterval
+  shl-ends = each-if Ends (both (nonnegative a) (nonnegative b)) _ (between-ends _ _ (shifted-small _ _) (shifted-small _ _))
+
+  shr-ends : Each Ends (shrInterval a b)
+  unfolding shrInterval
+  shr-ends =
+      each-if Ends (both (nonnegative a) (nonnegative b)) _ (each-some Ends _ (record {
+        low = lt-of-le-of-lt (mag-shr (a .low) _) (f .low);
+        high = lt-of-le-of-lt (mag-shr (a .high) _) (f .high);
+      }))
+
+  integer-ends : (o : Binary) → Each Ends (integerRule o a b)
+  unfolding integerRule
+  integer-ends bi.Add = add-ends
+  integer-ends bi.Sub = sub-ends
+  integer-ends bi.Mul = mul-ends
+  integer-ends bi.And = and-ends
+  integer-ends bi.Or = each-none Ends
+  integer-ends bi.Xor = each-none Ends
+  integer-ends bi.ShiftLeft = each-none Ends
+  integer-ends bi.ShiftRight = each-none Ends
+  integer-ends bi.ArithmeticShiftRight = each-none Ends
+  integer-ends bi.Equal = each-none Ends
+  integer-ends bi.NotEqual = each-none Ends
+  integer-ends bi.LessSigned = each-none Ends
+  integer-ends bi.LessUnsigned = each-none Ends
+  integer-ends bi.LessEqualSigned = each-none Ends
+  integer-ends bi.LessEqualUnsigned = each-none Ends
+  integer-ends bi.DivideSigned = quot-ends
+  integer-ends bi.RemainderSigned = rem-ends
+  integer-ends bi.DivideUnsigned = udiv-ends
+  integer-ends bi.RemainderUnsigned = urem-ends
+
+  bits-ends : (o : Binary) → Each Ends (bitsRule o a b)
+  unfolding bitsRule
+  bits-ends bi.Add = add-ends
+  bits-ends bi.Sub = sub-ends
+  bits-ends bi.Mul = mul-ends
+  bits-ends bi.And = and-ends
+  bits-ends bi.Or = each-none Ends
+  bits-ends bi.Xor = each-none Ends
+  bits-ends bi.ShiftLeft = shl-ends
+  bits-ends bi.ShiftRight = shr-ends
+  bits-ends bi.ArithmeticShiftRight = each-none Ends
+  bits-ends bi.Equal = each-none Ends
+  bits-ends bi.NotEqual = each-none Ends
+  bits-ends bi.LessSigned = each-none Ends
+  bits-ends bi.LessUnsigned = each-none Ends
+  bits-ends bi.LessEqualSigned = each-none Ends
+  bits-ends bi.LessEqualUnsigned = each-none Ends
+  bits-ends bi.DivideSigned = each-none Ends
+  bits-ends bi.RemainderSigned = each-none Ends
+  bits-ends bi.DivideUnsigned = each-none Ends
+  bits-ends bi.RemainderUnsigned = each-none Ends
+
+given-ends : (rule : Interval → Interval → Option Interval) → ((a b : Interval) → Ends a → Ends b → Each Ends (rule a b)) → (ra rb : Option Interval)
+    → Each Ends ra → Each Ends rb → Each Ends (bothGiven ra rb rule)
+given-ends rule k ra rb f g c e =
+    let (a, b, i, j, r) = both-given rule ra rb c e in
+    k a b (f a i) (g b j) c r
+
+filtered-ends : (w : ℕ) (a : Interval) → Ends a → Each Ends (filtered w a)
+unfolding filtered
+filtered-ends w a f = each-if Ends (both (ltb w 128) (both (nonnegative a) (leZ (a .high) (pos (2 ^ w - 1))))) _ (each-some Ends a f)
+
+held-ends : (w : ℕ) (m : Option Interval) → Each Ends m → Each Ends (orElse (heldTo w m) (typeInterval (ty.Bits w)))
+held-ends w none f = type-ends (ty.Bits w)
+held-ends w (some a) f = go (filtered w a) (filtered-ends w a (f a refl))
+  where
+    go : (o : Option Interval) → Each Ends o → Each Ends (orElse o (typeInterval (ty.Bits w)))
+    go none h = type-ends (ty.Bits w)
+    go (some b) h = h
+
+pub binary-ends : (o : Binary) (t : ScalarType) (ra rb r : Option Interval) → ((a : Interval) → ra ≡ some a → Ends a)
+    → ((a : Interval) → rb ≡ some a → Ends a) → binaryRange t o ra rb ≡ some r → (a : Interval) → r ≡ some a → Ends a
+unfolding binaryRange
+binary-ends o ty.Bool ra rb r f g e = subst (Each Ends) (there e) (type-ends ty.Bool)
+binary-ends o (ty.Bits w) ra rb r f g e =
+    subst (Each Ends) (there e) (held-ends w _ (given-ends (bitsRule o) (λ b c h k. bits-ends b c h k o) ra rb f g))
+binary-ends o ty.Integer ra rb r f g e =
+    each-mapped (Each Ends) some (bothGiven ra rb (integerRule o))
+    (λ a q. each-some Ends a (given-ends (integerRule o) (λ b c h k. integer-ends b c h k o) ra rb f g a q)) r e
+
+extended-ends : (w : ℕ) → Each Ends (signExtended w)
+unfolding signExtended
+extended-ends w a e =
+    let p = provided-is (both (ltb 0 w) (ltb w 128)) _ e in
+    let l : w < 128 = ltb-true w 128 (tests (ltb 0 w) (ltb w 128) (p .0) .1) in
+    let k : w - 1 ≤ 127 = omega arith in
+    let h : 0 < 2 ^ (w - 1) = pow-pos (w - 1) in
+    let b : 2 ^ (w - 1) - 1 < 2 ^ (w - 1) = omega arith in
+    let m : 2 ^ (w - 1) ≤ 2 ^ 127 = pow-mono k in
+    each-some Ends _ (record { low = negative-below (2 ^ (w - 1)) (2 ^ 127) (pow-pos 127) m; high = lt-of-lt-of-le b m }) a (p .1)
+
+negated-ends : (a : Interval) → Each Ends (negInterval a)
+unfolding negInterval
+negated-ends a = between-ends _ _ (fitted-small _) (fitted-small _)
+
+pub unary-ends : (o : Unary) (t : ScalarType) (ra r : Option Interval) → ((a : Interval) → ra ≡ some a → Ends a) → unaryRange t o ra ≡ some r
+    → (a : Interval) → r ≡ some a → Ends a
+unfolding unaryRange
+unary-ends un.BoolNot t ra r f e = subst (Each Ends) (there e) (type-ends t)
+unary-ends un.BitNot t ra r f e = subst (Each Ends) (there e) (type-ends t)
+unary-ends un.Negate t none r f e = absurd (not-there e)
+unary-ends un.Negate t (some p) r f e = each-mapped (Each Ends) some (negInterval p) (λ a q. each-some Ends a (negated-ends p a q)) r e
+unary-ends (un.Truncate w) t ra r f e = subst (Each Ends) (there e) (type-ends t)
+unary-ends (un.SignExtend w) ty.Bool ra r f e = subst (Each Ends) (there e) (type-ends ty.Bool)
+unary-ends (un.SignExtend w) (ty.Bits n) ra r f e = subst (Each Ends) (there e) (type-ends (ty.Bits n))
+unary-ends (un.SignExtend w) ty.Integer ra r f e = subst (Each Ends) (there e) (extended-ends w)
+unary-ends (un.LeadingZeros w) t ra r f e = subst (Each Ends) (there e) (type-ends t)
+unary-ends (un.TrailingZeros w) t ra r f e = subst (Each Ends) (there e) (type-ends t)
+
+-- ---- results are values of their types
+
+abbrev Below : ℕ → ℕ → Type 0
+Below k n = n < k
+
+bool-small : (b : Bool) → fromBool b < 2
+bool-small true = omega arith
+bool-small false = omega arith
+
+-- a count of bits is a pattern
+count-small : (n : ℕ) → n ≤ 128 → n < 2 ^ 128
+count-small n h = lt-of-le-of-lt h (lit< tt)
+
+-- so is what stands for an integer
+patterns : (m : Option ℤ) → Each (Below (2 ^ 128)) (mapped (residue 128) m)
+patterns m = each-mapped (Below (2 ^ 128)) (residue 128) m (λ z e. residue-lt 128 z)
+
+signed-patterns : (f : ℤ → ℤ → Option ℤ) (x y : ℕ) → Each (Below (2 ^ 128)) (signedly f x y)
+signed-patterns f x y = patterns (f (signed 128 x) (signed 128 y))
+
+-- an answer, or 0
+zero-small : (t : Bool) (n : ℕ) → n < 2 ^ 128 → orZero (only t n) < 2 ^ 128
+zero-small true n h = h
+zero-small false n h = pow-pos 128
+
+-- BitNot gives Bits
+gives-bits : (s t : ScalarType) → both (isBits s) (sameType t s) ≡ true → isBits t ≡ true
+gives-bits s t d = let c = tests (isBits s) (sameType t s) d in ap isBits (same-type t s (c .1)) ∙ c .0
+
+-- the result's type is refused
+refused : (a : Bool) → both a false ≡ true → ⊥
+refused a d = false≢true (tests a false d .1)
+
+bool-unary : (o : Unary) (s : ScalarType) (x : ℕ) → unaryTyped o s ty.Bool ≡ true → Each (Below 2) (evaluateUnary o x)
+unfolding evaluateUnary
+bool-unary un.BoolNot s x d = each-some (Below 2) _ (bool-small (eqb x 0))
+bool-unary un.BitNot s x d = absurd (false≢true (gives-bits s ty.Bool d))
+bool-unary un.Negate s x d = absurd (refused (sameType s ty.Integer) d)
+bool-unary (un.Truncate w) s x d = absurd (false≢true d)
+bool-unary (un.SignExtend w) s x d = absurd (refused (sameType s (ty.Bits w)) d)
+bool-unary (un.LeadingZeros w) s x d = absurd (refused (sameType s (ty.Bits w)) d)
+bool-unary (un.TrailingZeros w) s x d = absurd (refused (sameType s (ty.Bits w)) d)
+
+integer-unary : (o : Unary) (s : ScalarType) (x : ℕ) → unaryTyped o s ty.Integer ≡ true → Each (Below (2 ^ 128)) (evaluateUnary o x)
+unfolding evaluateUnary
+integer-unary un.BoolNot s x d = absurd (refused (sameType s ty.Bool) d)
+integer-unary un.BitNot s x d = absurd (false≢true (gives-bits s ty.Integer d))
+integer-unary un.Negate s x d = patterns (fitted (negℤ (signed 128 x)))
+integer-unary (un.Truncate w) s x d = absurd (false≢true d)
+integer-unary (un.SignExtend w) s x d =
+    each-some (Below (2 ^ 128)) (extend w x) (by-test (Below (2 ^ 128)) (eqb w 0) (λ c. pow-pos 128) (λ c. residue-lt 128 (extended w x)))
+integer-unary (un.LeadingZeros w) s x d =
+    let l = leading-le 128 (x % 2 ^ w) in each-some (Below (2 ^ 128)) (leadingIn w x) (count-small (leadingIn w x) (omega arith))
+integer-unary (un.TrailingZeros w) s x d =
+    let l = trailing-le 128 (x % 2 ^ w) in each-some (Below (2 ^ 128)) (trailingIn w x) (count-small (trailingIn w x) (omega arith))
+
+pub unary-small : (o : Unary) (s t : ScalarType) (x u : ℕ) → unaryTyped o s t ≡ true → typeWidth s ≤ 128 → typeWidth t ≤ 128 → x < size s
+    → evaluateUnary o x ≡ some u → reduced t u < size t
+unary-small o s ty.Bool x u d h k l e = bool-unary o s x d u e
+unary-small o s (ty.Bits w) x u d h k l e = mod-lt u (pow-pos w)
+unary-small o s ty.Integer x u d h k l e = integer-unary o s x d u e
+
+module _ (a b : ScalarType) (x y : ℕ) (l : x < size a) (m : y < size b) where
+  left-small : (t : ScalarType) → sameType a t ≡ true → x < size t
+  left-small t d = subst (λ (s : ScalarType). x < size s) (same-type a t d) l
+
+  -- both operands of the result's type
+  operands-small : (t : ScalarType) → both (sameType a t) (sameType b t) ≡ true → (x < size t) × (y < size t)
+  operands-small t d =
+      let c = tests (sameType a t) (sameType b t) d in
+      (left-small t (c .0), subst (λ (s : ScalarType). y < size s) (same-type b t (c .1)) m)
+
+  bool-binary : (o : Binary) → storedTyped o a b ty.Bool ≡ true → Each (Below 2) (binaryValue o ty.Bool x y)
+  bool-binary bi.Add d = absurd (false≢true d)
+  bool-binary bi.Sub d = absurd (false≢true d)
+  bool-binary bi.Mul d = absurd (false≢true d)
+  bool-binary bi.And d = let (p, q) = operands-small ty.Bool d in each-some (Below 2) _ (and-lt 1 x y p q)
+  bool-binary bi.Or d = let (p, q) = operands-small ty.Bool d in each-some (Below 2) _ (or-lt 1 x y p q)
+  bool-binary bi.Xor d = let (p, q) = operands-small ty.Bool d in each-some (Below 2) _ (xor-lt 1 x y p q)
+  bool-binary bi.ShiftLeft d = absurd (false≢true d)
+  bool-binary bi.ShiftRight d = absurd (false≢true d)
+  bool-binary bi.ArithmeticShiftRight d = absurd (false≢true d)
+  bool-binary bi.Equal d = each-some (Below 2) _ (bool-small (eqb x y))
+  bool-binary bi.NotEqual d = each-some (Below 2) _ (bool-small (not (eqb x y)))
+  bool-binary bi.LessSigned d = each-some (Below 2) _ (bool-small (ltZ (signed 128 x) (signed 128 y)))
+  bool-binary bi.LessUnsigned d = each-some (Below 2) _ (bool-small (ltb x y))
+  bool-binary bi.LessEqualSigned d = each-some (Below 2) _ (bool-small (leZ (signed 128 x) (signed 128 y)))
+  bool-binary bi.LessEqualUnsigned d = each-some (Below 2) _ (bool-small (leb x y))
+  bool-binary bi.DivideSigned d = absurd (false≢true d)
+  bool-binary bi.RemainderSigned d = absurd (false≢true d)
+  bool-binary bi.DivideUnsigned d = absurd (false≢true d)
+  bool-binary bi.RemainderUnsigned d = absurd (false≢true d)
+
+  integer-binary : (o : Binary) → storedTyped o a b ty.Integer ≡ true → Each (Below (2 ^ 128)) (binaryValue o ty.Integer x y)
+  integer-binary bi.Add d = signed-patterns i128.checked-add x y
+  integer-binary bi.Sub d = signed-patterns i128.checked-sub x y
+  integer-binary bi.Mul d = signed-patterns i128.checked-mul x y
+  integer-binary bi.And d = let (p, q) = operands-small ty.Integer d in each-some (Below (2 ^ 128)) _ (and-lt 128 x y p q)
+  integer-binary bi.Or d = let (p, q) = operands-small ty.Integer d in each-some (Below (2 ^ 128)) _ (or-lt 128 x y p q)
+  integer-binary bi.Xor d = let (p, q) = operands-small ty.Integer d in each-some (Below (2 ^ 128)) _ (xor-lt 128 x y p q)
+  integer-binary bi.ShiftLeft d =
+      each-some (Below (2 ^ 128)) (shiftedLeft x y) (zero-small (ltb (toU32 y) 128) _ (mod-lt (x * 2 ^ toU32 y) (pow-pos 128)))
+  integer-binary bi.ShiftRight d =
+      let p = left-small ty.Integer (tests (sameType a ty.Integer) (isNumber b) d .0) in
+      each-some (Below (2 ^ 128)) (shiftedRight x y) (zero-small (ltb (toU32 y) 128) _ (lt-of-le-of-lt (div-le-self x (2 ^ toU32 y)) p))
+  integer-binary bi.ArithmeticShiftRight d = each-some (Below (2 ^ 128)) (arithmeticShift 128 x y) (residue-lt 128 _)
+  integer-binary bi.Equal d = absurd (false≢true d)
+  integer-binary bi.NotEqual d = absurd (false≢true d)
+  integer-binary bi.LessSigned d = absurd (false≢true d)
+  integer-binary bi.LessUnsigned d = absurd (false≢true d)
+  integer-binary bi.LessEqualSigned d = absurd (false≢true d)
+  integer-binary bi.LessEqualUnsigned d = absurd (false≢true d)
+  integer-binary bi.DivideSigned d = signed-patterns i128.checked-div x y
+  integer-binary bi.RemainderSigned d = signed-patterns i128.checked-rem x y
+  integer-binary bi.DivideUnsigned d =
+      each-if (Below (2 ^ 128)) (ltb 0 y) _ (each-some (Below (2 ^ 128)) _ (lt-of-le-of-lt (div-le-self x y) (operands-small ty.Integer d .0)))
+  integer-binary bi.RemainderUnsigned d =
+      each-if (Below (2 ^ 128)) (ltb 0 y) _ (each-some (Below (2 ^ 128)) _ (lt-of-le-of-lt (mod-le x y) (operands-small ty.Integer d .0)))
+
+pub binary-small : (o : Binary) (a b t : ScalarType) (x y v : ℕ) → storedTyped o a b t ≡ true → typeWidth t ≤ 128 → x < size a → y < size b
+    → evaluateBinary o t x y ≡ some v → v < size t
+unfolding evaluateBinary
+binary-small o a b ty.Bool x y v d h l m = each-mapped (Below 2) (reduced ty.Bool) (binaryValue o ty.Bool x y) (bool-binary a b x y l m o d) v
+binary-small o a b (ty.Bits w) x y v d h l m =
+    each-mapped (Below (2 ^ w)) (reduced (ty.Bits w)) (binaryValue o (ty.Bits w) x y) (λ n e. mod-lt n (pow-pos w)) v
+binary-small o a b ty.Integer x y v d h l m =
+    each-mapped (Below (2 ^ 128)) (reduced ty.Integer) (binaryValue o ty.Integer x y) (integer-binary a b x y l m o d) v
+
+-- ---- unary's plans
+
+-- a value below half of w bits is its own sign extension
+extended-same : (w x : ℕ) → 0 < w → w ≤ 128 → x < 2 ^ (w - 1) → x < 2 ^ 128 → evaluateUnary (un.SignExtend w) x ≡ some x
+unfolding evaluateUnary
+extended-same w x p h l k =
+    let t : 2 ^ w ≡ 2 ^ (w - 1) + 2 ^ (w - 1) = half-twice w p in
+    rw (ne-eqb w 0 (omega arith))
+    (ap some (ap (residue 128) (extended-field x w p h (omega arith) ∙ signed-low w x l) ∙ residue-pos 128 x k))
+
+-- where the operator leaves the value as it is
+view-covers : {ρ : Env} {g : List ℕ} → Inv ρ g → (n : ℕ) → n < countOf g → (t : ScalarType) (o : Unary) → unaryTyped o (typeAt g n) t ≡ true
+    → isView o (typeAt g n) (rangeAt g n) ≡ true → Covers (unaryMeans t o (value ρ g n)) (andThen (value ρ g n) (valued t))
+view-covers i n l t un.BoolNot d e = absurd (false≢true e)
+view-covers i n l t un.BitNot d e = absurd (false≢true e)
+view-covers i n l t un.Negate d e = absurd (false≢true e)
+view-covers {ρ} {g} i n l t (un.Truncate w) d e = rw (same-type t (ty.Bits w) d) (covers-truncate w (value ρ g n))
+view-covers {ρ} {g} i n l t (un.SignExtend w) d e = λ v q.
+    let (p, c) = tests (ltb 0 w) _ e in
+    let (h, f) = tests (leb w 128) _ c in
+    let k : w ≤ 128 = leb-true w 128 h in
+    let (a, r, inside) = fits-facts (w - 1) (rangeAt g n) f in
+    let (x, xs, m) = then-is (value ρ g n) (λ x. andThen (evaluateUnary (un.SignExtend w) x) (valued t)) v q in
+    let s = extended-same w x (ltb-true 0 w p) k (fits-small i n l (w - 1) (omega arith) a r inside x xs) (value-pattern i n l x xs) in
+    rw (xs) (rw s at m)
+view-covers i n l t (un.LeadingZeros w) d e = absurd (false≢true e)
+view-covers i n l t (un.TrailingZeros w) d e = absurd (false≢true e)
+
+module _ {ρ : Env} {g : List ℕ} (i : Inv ρ g) (n : ℕ) (l : n < countOf g) (t : ScalarType) (o : Unary) (wide : typeWidth t ≤ 128)
+    (width : unaryWidth o ≤ 128) (typed : unaryTyped o (typeAt g n) t ≡ true) where
+  pub unary-constant-claim : (c : ℕ) → literal g n ≡ some c → Claim ρ g t (unaryMeans t o (value ρ g n)) (constantOr t (evaluateUnary o c))
+  unary-constant-claim c e = go (evaluateUnary o c) refl
+    where
+      same : value ρ g n ≡ some c
+      same = literal-value ρ g i n c l e
+
+      go : (r : Option ℕ) → evaluateUnary o c ≡ r → Claim ρ g t (unaryMeans t o (value ρ g n)) (constantOr t r)
+      go none q = tt
+      go (some u) q = (
+        refl,
+        record { width = wide; small = unary-small o (typeAt g n) t c u typed (i .width n l) wide (value-small i n l c same) q },
+        λ v f.
+            let m : valued t u ≡ some v = rw (same, q) at f in
+            ap some (sym (typed-is t (reduced t u) v m .0)),
+      )
+
+  unary-storable : (r : Option Interval) → unaryRange t o (rangeAt g n) ≡ some r → Storable ρ g t r (node.unary o n)
+  unary-storable r e =
+      let ends = unary-ends o t (rangeAt g n) r (i .ends n l) e in
+      record {
+        stored = record {
+          width = omega arith;
+          low = stored-low r ends;
+          high = stored-high r ends;
+          offset = omega arith;
+          parameter = omega arith;
+        };
+        width = wide;
+        below = omega arith;
+        typed = typed;
+        refined = tt;
+        ends = ends;
+        within = λ v q.
+            let (x, xs, f) = then-is (value ρ g n) (λ x. andThen (evaluateUnary o x) (valued t)) v q in
+            let (u, us, h) = then-is (evaluateUnary o x) (valued t) v f in
+            let (s, k) = typed-is t (reduced t u) v h in
+            unary-within o t (typeAt g n) (rangeAt g n) r x u v typed (i .ranged n l x xs) us s k e;
+      }
+
+  add-claim : (r : Option (Option Interval)) → unaryRange t o (rangeAt g n) ≡ r
+      → Claim ρ g t (unaryMeans t o (value ρ g n)) (addOr t r (node.unary o n))
+  add-claim none e = tt
+  add-claim (some r) e = (refl, unary-storable r e, λ v q. q)
+
+  pub unary-plan-claim : Claim ρ g t (unaryMeans t o (value ρ g n)) (unaryPlan g t o n)
+  unfolding unaryPlan
+  unary-plan-claim =
+      by-test (Claim ρ g t (unaryMeans t o (value ρ g n))) (isView o (typeAt g n) (rangeAt g n))
+      (λ e. ((wide, l), refl, view-covers i n l t o typed e))
+      (λ e. add-claim (unaryRange t o (rangeAt g n)) refl)
