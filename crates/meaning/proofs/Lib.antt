@@ -16,3 +16,6 @@ pub mod Unary
 pub mod Concat
 pub mod Offsets
 pub mod Right
+pub mod Shifts
+pub mod Binary
+pub mod Builders

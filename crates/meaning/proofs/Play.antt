@@ -3,14 +3,13 @@ use mathlib.Core.Path.{_≡_, refl, sym, ap, _∙_, subst}
 use mathlib.Core.Bool.{Bool, true, false, cond, false≢true}
 use mathlib.Core.List.{List, [], _∷_, _++_}
 use mathlib.Core.Option.{Option, none, some}
-use Prim.Native.Nat.{ℕ, _%_, _^_, _≤_, _<_}
+use Prim.Native.Nat.{ℕ, _^_, _≤_, _<_}
 use native.Mathlib.Nat.{mod-lt, le-refl}
 use native.Mathlib.Omega.{arith}
 use borrow.Author.Tests.{eqb-true, ltb-true, leb-true, le-leb}
 use lib.Dec.{eqb, ltb, leb, lit<}
-use lib.ListN.{length, getD, replicate, length-replicate, getD-replicate}
+use lib.ListN.{getD, replicate, length-replicate}
 use lib.Pow.{pow-pos}
-use Rattle.word.specs.Value.{signed}
 use Rattle.word.proofs.Integer.{signed-mag}
 use Rattle.range.specs.Interval.{Interval, _∈_, both, typeInterval}
 use Rattle.range.specs.declared.ScalarType.{ScalarType}
@@ -22,36 +21,36 @@ use Rattle.evaluate.specs.declared.Binary.{Binary}
 use Rattle.evaluate.specs.declared.Binary.the-variants as bi
 use Rattle.graph.specs.Layout.{REGION, LIMIT, countOf}
 use Rattle.graph.specs.Node as node
-use Rattle.graph.specs.Node.{Op, typeAt, rangeAt, wordsOf}
+use Rattle.graph.specs.Node.{Op, typeAt, wordsOf}
 use Rattle.graph.specs.WellFormed.{isGraph}
 use Rattle.graph.specs.Insert as graph
-use Rattle.graph.specs.Insert.{Reply, Made, made, constantInterval, interned, appended, foundOr, inserted}
+use Rattle.graph.specs.Insert.{Reply, made, constantInterval, interned, appended, foundOr, inserted}
 use Rattle.graph.proofs.Grown.{graph-facts}
 use Rattle.graph.proofs.Nodes.{appended-made, appended-full}
 use Rattle.fold.specs.Shape.{sameType}
 use Rattle.build.specs.Build as build
-use Rattle.build.specs.Build.{Call, Out, out}
-use Rattle.retain.specs.Retain.{isKept, isChoice, keptBelow, newId, newIds, retained}
+use Rattle.build.specs.Build.{Out, out}
+use Rattle.retain.specs.Retain.{isKept, isChoice, newId, retained}
 use Rattle.retain.proofs.Operands.{Choice, choice-facts}
 use Rattle.retain.proofs.Moving.{ids-at}
 use Rattle.retain.proofs.Laws.{id-kept}
 use Rattle.native.specs.Call as calls
-use Rattle.native.specs.Call.{Response, Called, isRefused, refusal, settled, leaves, finished, isBoolValue, isDeclared, constantInGraph, constantCall, inputInGraph, inputCall, effectInGraph, effectCall}
+use Rattle.native.specs.Call.{Response, Called, refusal, finished, isBoolValue, isDeclared, constantInGraph, constantCall, inputInGraph, inputCall, effectInGraph, effectCall}
 use Rattle.native.specs.Request as request
 use Rattle.native.specs.Request.{Request, UNITS, allUpTo, allBelow, widths, ids, typed, worked, madeOf, requestInGraph, requestCall}
 use Rattle.native.specs.Retain as retaining
-use Rattle.native.specs.Retain.{Retention, retention, retainInGraph, retainCall}
+use Rattle.native.specs.Retain.{Retention, retainInGraph, retainCall}
 use Rattle.native.specs.Typing.{isNumber, binaryTyped}
-use Rattle.meaning.specs.Value.{Env, size, integerOf, ofType, valued, andThen, unaryMeans, binaryMeans, sliceMeans, concatMeans, operationMeans, value}
+use Rattle.meaning.specs.Value.{Env, size, integerOf, ofType, valued, operationMeans, value}
 use Rattle.meaning.specs.Book.{Action, constant, input, effect, builder, retain, pattern, rangeOf, requestMeans, Line, Condition, inputIs, effectIs, Book, orElse, first, handed, adds, struck, retains, State, called, kept, act, play, Met, AllMet, Right, AllRight, Demand3}
-use Rattle.meaning.proofs.Values.{none-some, typed-is, then-is}
-use Rattle.meaning.proofs.Invariant.{shiftable, storedTyped, Ends, Within, Inv, Extends, ext-here, ext-value, Storable, Kept, kept-refl, Found, Answered, insert-good}
+use Rattle.meaning.proofs.Values.{none-some, typed-is}
+use Rattle.meaning.proofs.Invariant.{shiftable, storedTyped, Ends, Within, Inv, Extends, ext-here, ext-value, Storable, Answered, insert-good}
 use Rattle.meaning.proofs.Constants.{no-interval, the, reduced-same, stored-low, stored-high, constant-storable}
 use Rattle.meaning.proofs.Ranges.{type-within, type-ends}
 use Rattle.meaning.proofs.Plans.{Covers, then-covers, binary-covers, concat-covers}
 use Rattle.meaning.proofs.Retain.{kept-here, retain-value, retain-inv}
 use Rattle.meaning.proofs.Tree as Tree
-use Rattle.meaning.proofs.Tree.{meaning, typeOf, Callable, Sound}
+use Rattle.meaning.proofs.Tree.{Sound}
 use Rattle.meaning.proofs.Views.{by-test, same-type}
 
 -- ---- lines

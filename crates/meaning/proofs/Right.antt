@@ -22,11 +22,11 @@ use Rattle.evaluate.specs.declared.Binary.{Binary}
 use Rattle.evaluate.specs.declared.Binary.the-variants as bi
 use Rattle.graph.specs.Layout.{countOf}
 use Rattle.graph.specs.Node as node
-use Rattle.graph.specs.Node.{Op, typeAt, rangeAt, operationAt}
+use Rattle.graph.specs.Node.{typeAt, rangeAt}
 use Rattle.graph.specs.Insert.{literal}
 use Rattle.fold.specs.Operator.{zeroKeeps, zeroMakesZero, bitwise}
 use Rattle.fold.specs.Range.{bothGiven, comparison}
-use Rattle.fold.specs.Shape.{given, sameType, sameBinary, isAny, mask, Chain, chained, chainOf, chainAt}
+use Rattle.fold.specs.Shape.{given, sameType, sameBinary, isAny, mask, Chain, chainAt}
 use Rattle.native.specs.Typing.{isNumber, sameTypes, arithmetic, shift}
 use Rattle.native.specs.Typing as typing
 use Rattle.plan.specs.Plan as plan
@@ -41,7 +41,7 @@ use Rattle.meaning.proofs.Tree.{Callable}
 use Rattle.meaning.proofs.Plans.{Claim}
 use Rattle.meaning.proofs.Views.{same-type, value-small, value-pattern}
 use Rattle.meaning.proofs.Ranges.{not-there, there, provided-is, mapped-is, both-given}
-use Rattle.meaning.proofs.Field.{means-at, below-at, typed-at, literal-value, operands, binary-is}
+use Rattle.meaning.proofs.Field.{means-at, below-at, typed-at, literal-value, operands, binary-is, Linked, linked}
 use Rattle.meaning.proofs.Compared.{comparison-sound, sub-twice, xor-twice, and-twice, or-twice, equal-twice, not-equal-twice, less-signed-twice, less-unsigned-twice, at-most-signed-twice, at-most-unsigned-twice, and-zero, mul-zero, or-zero, xor-zero, shift-left-zero, shift-right-zero, add-zero, sub-zero, arithmetic-zero, mask-is, and-ones, or-ones, and-true, or-true, and-merged, or-merged, xor-merged, and-of-or-merged}
 
 -- ---- types of operands
@@ -179,42 +179,19 @@ bits-typed : (w : ℕ) → sameTypes (ty.Bits w) (ty.Bits w) (ty.Bits w) ≡ tru
 bits-typed w = rw (eq-eqb w w refl)
 
 -- node n is an operation by a constant
-record Chained (g : List ℕ) (n : ℕ) (c : Chain) : Type 0 where
-  right : ℕ
-  operation : operationAt g n ≡ node.binary (c .op) (c .base) right
-  value : literal g right ≡ some (c .value)
+module _ {ρ : Env} {g : List ℕ} (i : Inv ρ g) (n : ℕ) (l : n < countOf g) (c : Chain) (f : Linked g n c) where
+  chain-here : (c .base < countOf g) × (f .constant < countOf g)
+  chain-here = let b = below-at ρ g i n l (node.binary (c .op) (c .base) (f .constant)) (f .operation) in (omega arith, omega arith)
 
-chain-is : (g : List ℕ) (n : ℕ) (c : Chain) → chainAt g n ≡ some c → Chained g n c
-unfolding chainAt
-chain-is g n c e = go (operationAt g n) refl e
-  where
-    go : (o : Op) → operationAt g n ≡ o → chainOf g o ≡ some c → Chained g n c
-    go (node.constant d) q e = absurd (not-there e)
-    go (node.input j) q e = absurd (not-there e)
-    go (node.refine j) q e = absurd (not-there e)
-    go (node.effect j) q e = absurd (not-there e)
-    go (node.slice j o w) q e = absurd (not-there e)
-    go (node.concat j h w) q e = absurd (not-there e)
-    go (node.unary u j) q e = absurd (not-there e)
-    go (node.binary b j h) q e = on (literal g h) refl e
-      where
-        on : (x : Option ℕ) → literal g h ≡ x → chained b j x ≡ some c → Chained g n c
-        on none d e = absurd (not-there e)
-        on (some v) d e = subst (Chained g n) (there e) (record { right = h; operation = q; value = d })
-
-module _ {ρ : Env} {g : List ℕ} (i : Inv ρ g) (n : ℕ) (l : n < countOf g) (c : Chain) (f : Chained g n c) where
-  chain-here : (c .base < countOf g) × (f .right < countOf g)
-  chain-here = let b = below-at ρ g i n l (node.binary (c .op) (c .base) (f .right)) (f .operation) in (omega arith, omega arith)
-
-  chain-typed : storedTyped (c .op) (typeAt g (c .base)) (typeAt g (f .right)) (typeAt g n) ≡ true
-  chain-typed = typed-at ρ g i n l (node.binary (c .op) (c .base) (f .right)) (f .operation)
+  chain-typed : storedTyped (c .op) (typeAt g (c .base)) (typeAt g (f .constant)) (typeAt g n) ≡ true
+  chain-typed = typed-at ρ g i n l (node.binary (c .op) (c .base) (f .constant)) (f .operation)
 
   chain-means : (v : ℕ) → value ρ g n ≡ some v
       → (x : ℕ) × (value ρ g (c .base) ≡ some x) × (evaluateBinary (c .op) (typeAt g n) x (c .value) ≡ some v)
   chain-means v e =
       let t = typeAt g n in
-      let s = operands ρ g t (c .op) (c .base) (f .right) v (means-at ρ g i n l v e (node.binary (c .op) (c .base) (f .right)) (f .operation)) in
-      let y : s .y ≡ c .value = some-is (sym (s .right) ∙ literal-value ρ g i (f .right) (c .value) (chain-here .1) (f .value)) in
+      let s = operands ρ g t (c .op) (c .base) (f .constant) v (means-at ρ g i n l v e (node.binary (c .op) (c .base) (f .constant)) (f .operation)) in
+      let y : s .y ≡ c .value = some-is (sym (s .right) ∙ literal-value ρ g i (f .constant) (c .value) (chain-here .1) (f .has)) in
       let q = then-is (evaluateBinary (c .op) t (s .x) (s .y)) (ofType t) v (s .means) in
       (s .x, s .left, ap (evaluateBinary (c .op) t (s .x)) (sym y) ∙ q .1 ∙ ap some (sym (typed-is t (q .0) v (q .2) .0)))
 
@@ -435,7 +412,7 @@ right-claim i t o l r k c lit p e =
 -- ---- an operation by a constant of an operation by a constant
 
 module _ {ρ : Env} {g : List ℕ} (i : Inv ρ g) (w : ℕ) (o : Binary) (l r : ℕ) (k : Callable g (binary (ty.Bits w) o l r)) (b : ℕ) (lit : literal g r ≡ some b)
-    (c : Chain) (f : Chained g l c) where
+    (c : Chain) (f : Linked g l c) where
   -- its value, if there is one, by the base's
   pair-means : typeAt g l ≡ ty.Bits w → (v : ℕ) → binaryMeans (ty.Bits w) o (value ρ g l) (value ρ g r) ≡ some v
       → (y : ℕ) × (x : ℕ) × (value ρ g (c .base) ≡ some x) × (evaluateBinary (c .op) (ty.Bits w) x (c .value) ≡ some y)
@@ -455,8 +432,8 @@ module _ {ρ : Env} {g : List ℕ} (i : Inv ρ g) (w : ℕ) (o : Binary) (l r : 
   pair-types : Merges o → Merges (c .op) → (typeAt g l ≡ ty.Bits w) × (typeAt g r ≡ ty.Bits w) × (typeAt g (c .base) ≡ ty.Bits w)
   pair-types m n =
       let s = bit-types i (ty.Bits w) o l r k m in
-      let q = same-types (typeAt g (c .base)) (typeAt g (f .right)) (typeAt g l)
-      (sym (n .0 (typeAt g (c .base)) (typeAt g (f .right)) (typeAt g l)) ∙ chain-typed i l (k .1) c f) in
+      let q = same-types (typeAt g (c .base)) (typeAt g (f .constant)) (typeAt g l)
+      (sym (n .0 (typeAt g (c .base)) (typeAt g (f .constant)) (typeAt g l)) ∙ chain-typed i l (k .1) c f) in
       (s .0, s .1, q .0 ∙ s .0)
 
   merged-claim : c .op ≡ o → Merges o → Asked i (ty.Bits w) o l r k (mergedPlan (ty.Bits w) o (c .base) (evaluateBinary o (ty.Bits w) (c .value) b))
@@ -528,5 +505,5 @@ mask-claim {ρ} {g} i (ty.Bits w) o l r k c lit p e = go (chainAt g l) refl e
   where
     go : (a : Option Chain) → chainAt g l ≡ a → given a (maskTwice (ty.Bits w) o r c) none ≡ some p → Asked i (ty.Bits w) o l r k p
     go none q e = absurd (not-there e)
-    go (some d) q e = mask-twice i w o l r k c lit d (chain-is g l d q) p e
+    go (some d) q e = mask-twice i w o l r k c lit d (linked g l d q) p e
 mask-claim i ty.Integer o l r k c lit p e = absurd (not-there e)

@@ -3,7 +3,7 @@ use mathlib.Core.Path.{_≡_, refl, sym, ap, _∙_, subst}
 use mathlib.Core.Bool.{Bool, true, false, cond}
 use mathlib.Core.List.{List}
 use mathlib.Core.Logic.{⊎-elim}
-use mathlib.Core.Option.{Option, none, some}
+use mathlib.Core.Option.{some}
 use Prim.Native.Nat.{ℕ, _+_, _-_, _%_, _^_, _≤_, _<_, min}
 use native.Mathlib.Nat.{mod-lt, mod-eq-of-lt, lt-of-lt-of-le, min-eq-left}
 use native.Mathlib.Omega.{arith}
@@ -11,7 +11,6 @@ use borrow.Author.Tests.{leb-true, le-leb, lt-leb, eq-eqb}
 use lib.Dec.{leb}
 use lib.IntN.{pos, _-ℤ_}
 use lib.Pow.{pow-pos, pow-mono, lt-of-le-ones}
-use Rattle.word.specs.Value.{residue}
 use Rattle.word.proofs.Integer.{lt-or-ge}
 use Rattle.range.specs.Interval.{both}
 use Rattle.range.specs.declared.ScalarType.{ScalarType}
@@ -31,10 +30,10 @@ use Rattle.native.specs.Request.{UNITS}
 use Rattle.bits.proofs.Sums.{Wrap, under, over, wrap, sub-exact}
 use Rattle.meaning.specs.Value.{Env, size, ofType, binaryMeans, value}
 use Rattle.meaning.specs.Book.{requestMeans}
-use Rattle.meaning.proofs.Values.{some-is, typed-of, then-is}
+use Rattle.meaning.proofs.Values.{typed-of, then-is}
 use Rattle.meaning.proofs.Invariant.{storedTyped, Inv, ext-here, ext-type, ext-value}
 use Rattle.meaning.proofs.Modular.{wraps-sub}
-use Rattle.meaning.proofs.Plans.{Number, Covers, constant-good, by-constant-good}
+use Rattle.meaning.proofs.Plans.{Number, constant-good, by-constant-good}
 use Rattle.meaning.proofs.Ranges.{wrapped-sub}
 use Rattle.meaning.proofs.Tree.{Ends, Sound, Good, exec-ends}
 use Rattle.meaning.proofs.Views.{value-small}
