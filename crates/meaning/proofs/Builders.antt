@@ -3,21 +3,18 @@ use mathlib.Core.Path.{_≡_, refl, sym, ap, _∙_, subst}
 use mathlib.Core.Bool.{Bool, true, false, cond, false≢true}
 use mathlib.Core.List.{List}
 use mathlib.Core.Option.{Option, none, some}
-use Prim.Native.Nat.{ℕ, _≤_, _<_}
+use Prim.Native.Nat.{ℕ}
 use borrow.Author.Tests.{eqb-true}
-use lib.Dec.{eqb}
 use Rattle.range.specs.declared.ScalarType.{ScalarType}
 use Rattle.range.specs.declared.ScalarType.the-variants as ty
 use Rattle.evaluate.specs.Evaluate.{evaluateUnary}
-use Rattle.evaluate.specs.Operator.{typeWidth, unaryWidth}
+use Rattle.evaluate.specs.Operator.{unaryWidth}
 use Rattle.evaluate.specs.declared.Unary.{Unary}
 use Rattle.evaluate.specs.declared.Unary.the-variants as un
-use Rattle.graph.specs.Layout.{countOf}
-use Rattle.graph.specs.Node.{typeAt}
 use Rattle.graph.specs.Insert.{literal, resolve}
 use Rattle.fold.specs.Shape.{given}
 use Rattle.plan.specs.Plan as plan
-use Rattle.plan.specs.Plan.{First, does, tries, unaryRest, constantOr}
+use Rattle.plan.specs.Plan.{does, tries, unaryRest, constantOr}
 use Rattle.plan.specs.Single.{identityPlan, isReduction, unaryPlan, unaryOpen, unaryFirst, modularPlan}
 use Rattle.plan.specs.Slice.{sliceFirst, concatFirst}
 use Rattle.plan_binary.specs.Binary.{binaryFirst}
@@ -30,7 +27,7 @@ use Rattle.meaning.proofs.Binary.{binary-first-claim}
 use Rattle.meaning.proofs.Concat.{concat-first-claim}
 use Rattle.meaning.proofs.Invariant.{storedTyped, Inv, ext-here, ext-type, ext-value, Kept, resolve-leads}
 use Rattle.meaning.proofs.Modular.{modular-claim}
-use Rattle.meaning.proofs.Plans.{Covers, Claim, Tail, FirstClaim, perform-good, first-good}
+use Rattle.meaning.proofs.Plans.{Claim, Tail, FirstClaim, perform-good, first-good}
 use Rattle.meaning.proofs.Play.{demand3-of}
 use Rattle.meaning.proofs.Slice.{slice-first-claim}
 use Rattle.meaning.proofs.Tested.{range-sound}

@@ -4,13 +4,13 @@ use mathlib.Core.Bool.{Bool, true, false, not, cond}
 use mathlib.Core.Logic.{_⊎_, inl, inr, ⊎-elim}
 use mathlib.Core.Option.{Option, none, some}
 use Prim.Native.Nat.{ℕ, zero, suc, zero-le, _+_, _-_, _*_, _%_, _^_, _≤_, _<_}
-use native.Mathlib.Nat.{zero-mod, mod-eq-of-lt, le-refl, lt-of-lt-of-le, mul-one, div-one, mod-mod, min-eq-left}
+use native.Mathlib.Nat.{zero-mod, mod-eq-of-lt, le-refl, mul-one, div-one, mod-mod, min-eq-left}
 use native.Mathlib.Omega.{arith}
 use borrow.Author.Tests.{eq-eqb, ne-eqb, eqb-true, lt-ltb, le-ltb, le-leb}
 use lib.Bits.{bitAnd, bitOr, bitXor, and-self, or-self, xor-self, and-mask, and-mod, or-mod, xor-mod, and-zero-r, or-zero-r, xor-zero-r, or-add-and}
 use lib.Dec.{T, eqb, ltb, leb}
 use lib.IntN.{ℤ, pos, negsuc, _+ℤ_, _-ℤ_, _*ℤ_, +ℤ-invr, +ℤ-idr, *ℤ-zero}
-use lib.Pow.{pow-pos, pow-mono, ones-lt}
+use lib.Pow.{pow-pos, ones-lt}
 use lib.Signed.{mag, ltZ, leZ, shrZ, _≤ℤ_, leZ-yes, ≤ℤ-refl}
 use Rattle.word.specs.Value.{signed, residue, eqZ, provided, fits, fitted, isPowerOfTwo}
 use Rattle.word.proofs.Integer.{signed-low, signed-high, signed-mag, residue-signed, lt-or-ge}
@@ -33,6 +33,7 @@ use Rattle.fold.specs.Shape.{mask}
 use Rattle.meaning.specs.Value.{size, integerOf}
 use Rattle.meaning.proofs.Values.{some-is}
 use Rattle.meaning.proofs.Invariant.{Ends}
+use Rattle.meaning.proofs.Constants.{reduced-same, pattern}
 
 -- ---- order and equality of integers in intervals
 
@@ -204,11 +205,6 @@ reduced-zero (ty.Bits w) = zero-mod (2 ^ w)
 reduced-zero ty.Integer = refl
 
 -- a value of the type is as it is
-pub reduced-keep : (t : ScalarType) (x : ℕ) → x < size t → reduced t x ≡ x
-reduced-keep ty.Bool x l = refl
-reduced-keep (ty.Bits w) x l = mod-eq-of-lt l
-reduced-keep ty.Integer x l = refl
-
 -- an integer of a pattern, as an answer
 answer : (z : ℤ) (x : ℕ) → x < 2 ^ 128 → z ≡ signed 128 x → mapped (residue 128) (fitted z) ≡ some x
 unfolding fits
@@ -235,11 +231,11 @@ module _ (t : ScalarType) (x : ℕ) where
 
   pub and-twice : x < size t → evaluateBinary bi.And t x x ≡ some x
   unfolding evaluateBinary
-  and-twice l = ap (λ (n : ℕ). some (reduced t n)) (and-self x) ∙ ap some (reduced-keep t x l)
+  and-twice l = ap (λ (n : ℕ). some (reduced t n)) (and-self x) ∙ ap some (reduced-same t x l)
 
   pub or-twice : x < size t → evaluateBinary bi.Or t x x ≡ some x
   unfolding evaluateBinary
-  or-twice l = ap (λ (n : ℕ). some (reduced t n)) (or-self x) ∙ ap some (reduced-keep t x l)
+  or-twice l = ap (λ (n : ℕ). some (reduced t n)) (or-self x) ∙ ap some (reduced-same t x l)
 
 module _ (x : ℕ) where
   pub equal-twice : evaluateBinary bi.Equal ty.Bool x x ≡ some 1
@@ -277,15 +273,6 @@ minus-zero n = omega arith
 times-zero : (n : ℕ) → n * 0 ≡ 0
 times-zero n = omega arith
 
--- a pattern of a type of at most 128 bits
-pub small : (t : ScalarType) (x : ℕ) → shiftWidth t ≤ 128 → x < size t → x < 2 ^ 128
-small ty.Bool x h l =
-    let q : 1 ≤ 128 = omega arith in
-    let p : 2 ^ 1 ≤ 2 ^ 128 = pow-mono q in
-    lt-of-lt-of-le l p
-small (ty.Bits w) x h l = lt-of-lt-of-le l (pow-mono h)
-small ty.Integer x h l = l
-
 zero-signed : signed 128 0 ≡ pos 0
 zero-signed = signed-low 128 0 (pow-pos 127)
 
@@ -318,7 +305,7 @@ module _ (t : ScalarType) (x : ℕ) where
 
   module _ (l : x < size t) where
     kept : (n : ℕ) → n ≡ x → _≡_ {A = Option ℕ} (some (reduced t n)) (some x)
-    kept n e = ap (λ (n : ℕ). some (reduced t n)) e ∙ ap some (reduced-keep t x l)
+    kept n e = ap (λ (n : ℕ). some (reduced t n)) e ∙ ap some (reduced-same t x l)
 
     pub or-zero : evaluateBinary bi.Or t x 0 ≡ some x
     unfolding evaluateBinary
@@ -376,7 +363,7 @@ arithmetic-all x m = arithmetic 128 x (omega arith) m (omega arith) 0 ∙ ap (re
 
 pub arithmetic-zero : (t : ScalarType) (x : ℕ) → shiftWidth t ≤ 128 → x < size t → evaluateBinary bi.ArithmeticShiftRight t x 0 ≡ some x
 unfolding evaluateBinary
-arithmetic-zero ty.Bool x h l = ap some (arithmetic-all x (small ty.Bool x h l))
+arithmetic-zero ty.Bool x h l = ap some (arithmetic-all x (pattern ty.Bool x (omega arith) l))
 arithmetic-zero (ty.Bits w) x h l = ap some (arithmetic-none x w h l)
 arithmetic-zero ty.Integer x h l = ap some (arithmetic-all x l)
 

@@ -15,7 +15,7 @@ use Rattle.word.specs.Value.{only, provided}
 use Rattle.range.specs.Interval.{both, one}
 use Rattle.range.specs.declared.ScalarType.{ScalarType}
 use Rattle.range.specs.declared.ScalarType.the-variants as ty
-use Rattle.evaluate.specs.Evaluate.{fromBool, reduced, evaluateUnary, evaluateBinary}
+use Rattle.evaluate.specs.Evaluate.{fromBool, evaluateUnary, evaluateBinary}
 use Rattle.evaluate.specs.Operator.{typeWidth, binaryCode}
 use Rattle.evaluate.specs.U128 as u128
 use Rattle.evaluate.specs.declared.Unary.{Unary}
@@ -29,12 +29,15 @@ use Rattle.graph.specs.Insert.{start, literalOf, literal}
 use Rattle.fold.specs.Shape.{given, sameType, sameBinary, mask, Chain, chained, chainOf, chainAt}
 use Rattle.fold.specs.Bitfield.{Bit, known, source, BitStep, here, from, flipped, hasBit, above, maskedBit, unaryBit, bitOf, bitStep, turned, reached, DEPTH, bitAt, Field, noBits, power, sameBase, withBit, concatBit, fieldFrom, lowFits, bitfield, Mask, Update, updateOf, updateAt, Look, next, end, found, keeps, changed, lookUpdate, lookTyped, lookAt, firstFound, maskedComparison}
 use Rattle.native.specs.Typing.{concatTyped}
+use Rattle.range.proofs.Sound.{tests}
 use Rattle.bits.specs.Bit.{bit}
 use Rattle.bits.proofs.Bit.{bit-lt, bit-zero, bit-ext, bit-and, bit-or, bit-xor, bit-big, bit-shr, bit-mod, bit-mod-big, bit-high, bit-low-part}
 use Rattle.bits.proofs.Logic.{field-kept, kept-field}
 use Rattle.meaning.specs.Value.{Env, size, ofType, valued, andThen, binaryMeans, operationMeans, value}
-use Rattle.meaning.proofs.Values.{none-some, some-is, typed-is, typed-of, then-is, means-small}
+use Rattle.meaning.proofs.Values.{none-some, some-is, typed-is, typed-of, then-is}
 use Rattle.meaning.proofs.Invariant.{Typed, Inv, inv-step}
+use Rattle.meaning.proofs.Constants.{reduced-same}
+use Rattle.meaning.proofs.Views.{same-type, value-small}
 
 -- ---- what is told of a bit
 
@@ -71,11 +74,6 @@ set-is v i = go (hasBit v i) refl (mod-lt (v / 2 ^ i) (omega arith))
     go true e l = sym (eqb-true (v / 2 ^ i % 2) 1 e)
     go false e l = omega (arith, eqb-false (v / 2 ^ i % 2) 1 e)
 
-reduced-small : (t : ScalarType) (c : ℕ) → c < size t → reduced t c ≡ c
-reduced-small ty.Bool c l = refl
-reduced-small (ty.Bits w) c l = mod-eq-of-lt l
-reduced-small ty.Integer c l = refl
-
 valued-bit : (t : ScalarType) (z v i : ℕ) → valued t z ≡ some v → above t i ≡ false → bit v i ≡ bit z i
 valued-bit ty.Bool z v i e a = ap (λ (n : ℕ). bit n i) (typed-is ty.Bool z v e .0)
 valued-bit (ty.Bits w) z v i e a = ap (λ (n : ℕ). bit n i) (typed-is (ty.Bits w) (z % 2 ^ w) v e .0) ∙ bit-mod z w i (leb-false w i a)
@@ -104,13 +102,10 @@ module _ (ρ : Env) (g : List ℕ) (inv : Inv ρ g) where
   pub typed-at : (n : ℕ) → n < countOf g → (o : Op) → operationAt g n ≡ o → Typed g (typeAt g n) o
   typed-at n l o e = subst (λ (p : Op). Typed g (typeAt g n) p) e (inv .typed n l)
 
-  value-small : (n : ℕ) → n < countOf g → (v : ℕ) → value ρ g n ≡ some v → v < size (typeAt g n)
-  value-small n l v ev = means-small ρ (typeAt g n) (operationAt g n) (value ρ g) v (means-at n l v ev (operationAt g n) refl)
-
   constant-value : (n c : ℕ) → n < countOf g → operationAt g n ≡ node.constant c → value ρ g n ≡ some c
   constant-value n c l e =
       let s : c < size (typeAt g n) = typed-at n l (node.constant c) e in
-      inv-step inv n l ∙ ap (λ (p : Op). operationMeans ρ (typeAt g n) p (value ρ g)) e ∙ ap (ofType (typeAt g n)) (reduced-small (typeAt g n) c s)
+      inv-step inv n l ∙ ap (λ (p : Op). operationMeans ρ (typeAt g n) p (value ρ g)) e ∙ ap (ofType (typeAt g n)) (reduced-same (typeAt g n) c s)
       ∙ typed-of (typeAt g n) c s
 
   pub literal-value : (n c : ℕ) → n < countOf g → literal g n ≡ some c → value ρ g n ≡ some c
@@ -163,26 +158,11 @@ pub record Sides (a b : ScalarType) (v w : ℕ) : Type 0 where
   pub high : a ≡ ty.Bits (w - v)
   pub low : b ≡ ty.Bits v
 
-both-is : (a b : Bool) → both a b ≡ true → (a ≡ true) × (b ≡ true)
-both-is true b e = (refl, e)
-both-is false b e = let z : _≡_ {A = ℕ} 0 1 = cc in absurd (omega arith)
-
-type-is : (a b : ScalarType) → sameType a b ≡ true → a ≡ b
-type-is ty.Bool ty.Bool e = refl
-type-is ty.Bool (ty.Bits v) e = let z : _≡_ {A = ℕ} 0 1 = cc in absurd (omega arith)
-type-is ty.Bool ty.Integer e = let z : _≡_ {A = ℕ} 0 1 = cc in absurd (omega arith)
-type-is (ty.Bits w) ty.Bool e = let z : _≡_ {A = ℕ} 0 1 = cc in absurd (omega arith)
-type-is (ty.Bits w) (ty.Bits v) e = ap ty.Bits (eqb-true w v e)
-type-is (ty.Bits w) ty.Integer e = let z : _≡_ {A = ℕ} 0 1 = cc in absurd (omega arith)
-type-is ty.Integer ty.Bool e = let z : _≡_ {A = ℕ} 0 1 = cc in absurd (omega arith)
-type-is ty.Integer (ty.Bits v) e = let z : _≡_ {A = ℕ} 0 1 = cc in absurd (omega arith)
-type-is ty.Integer ty.Integer e = refl
-
 pub sides : (a b : ScalarType) (v w : ℕ) → concatTyped a b v w ≡ true → Sides a b v w
 sides a b v w e =
-    let p = both-is (leb v w) (both (sameType a (ty.Bits (w - v))) (sameType b (ty.Bits v))) e in
-    let q = both-is (sameType a (ty.Bits (w - v))) (sameType b (ty.Bits v)) (p .1) in
-    record { narrow = leb-true v w (p .0); high = type-is a (ty.Bits (w - v)) (q .0); low = type-is b (ty.Bits v) (q .1) }
+    let p = tests (leb v w) (both (sameType a (ty.Bits (w - v))) (sameType b (ty.Bits v))) e in
+    let q = tests (sameType a (ty.Bits (w - v))) (sameType b (ty.Bits v)) (p .1) in
+    record { narrow = leb-true v w (p .0); high = same-type a (ty.Bits (w - v)) (q .0); low = same-type b (ty.Bits v) (q .1) }
 
 -- ---- one step
 
@@ -285,7 +265,7 @@ module _ (ρ : Env) (g : List ℕ) (inv : Inv ρ g) (n i v : ℕ) (l : n < count
       go : (x : ℕ) → value ρ g p ≡ some x → bit v i ≡ bit x (o + i) → (t : Bool) → leb w i ≡ t → StepSays ρ g v i (cond t (here (known false)) (from p (o + i)))
       go x ex f true q =
           let t : typeAt g n ≡ ty.Bits w = typed-at ρ g inv n l (node.slice p o w) e in
-          bit-big v w i (subst (λ (k : ScalarType). v < size k) t (value-small ρ g inv n l v ev)) (leb-true w i q)
+          bit-big v w i (subst (λ (k : ScalarType). v < size k) t (value-small inv n l v ev)) (leb-true w i q)
       go x ex f false q =
           let b = below-at ρ g inv n l (node.slice p o w) e in
           (omega arith, x, ex, f)
@@ -295,7 +275,7 @@ module _ (ρ : Env) (g : List ℕ) (inv : Inv ρ g) (n i v : ℕ) (l : n < count
       let t = typed-at ρ g inv n l (node.concat h k w) e in
       let d = sides (typeAt g h) (typeAt g k) w (t .0) (t .2) in
       let b = below-at ρ g inv n l (node.concat h k w) e in
-      let small : r .0 < 2 ^ w = subst (λ (c : ScalarType). r .0 < size c) (d .low) (value-small ρ g inv k (omega arith) (r .0) (r .1)) in
+      let small : r .0 < 2 ^ w = subst (λ (c : ScalarType). r .0 < size c) (d .low) (value-small inv k (omega arith) (r .0) (r .1)) in
       go (s .0) (r .0) (s .1) (r .1) small (valued-bit (typeAt g n) (s .0 * 2 ^ w + r .0) v i (r .2) a) (ltb i w) refl
     where
       go : (x y : ℕ) → value ρ g h ≡ some x → value ρ g k ≡ some y → y < 2 ^ w → bit v i ≡ bit (x * 2 ^ w + y) i → (t : Bool) → ltb i w ≡ t
@@ -322,8 +302,8 @@ module _ (ρ : Env) (g : List ℕ) (inv : Inv ρ g) where
   step-says n i v l ev = go (leb 128 i) refl (above (typeAt g n) i) refl
     where
       go : (x : Bool) → leb 128 i ≡ x → (y : Bool) → above (typeAt g n) i ≡ y → StepSays ρ g v i (cond (one x y) (here (known false)) (bitOf g n i (operationAt g n)))
-      go true p y q = past-zero (typeAt g n) v i (inv .width n l) (value-small ρ g inv n l v ev) (leb-true 128 i p)
-      go false p true q = above-zero (typeAt g n) v i (value-small ρ g inv n l v ev) q
+      go true p y q = past-zero (typeAt g n) v i (inv .width n l) (value-small inv n l v ev) (leb-true 128 i p)
+      go false p true q = above-zero (typeAt g n) v i (value-small inv n l v ev) q
       go false p false q = op-says ρ g inv n i v l ev q (operationAt g n) refl
 
   turned-says : (v u i j : ℕ) (o : Option Bit) → bit v i ≡ 1 - bit u j → ((b : Bit) → o ≡ some b → Says ρ g u j b) → (b : Bit) → turned o ≡ some b
@@ -533,10 +513,10 @@ module _ (ρ : Env) (g : List ℕ) (inv : Inv ρ g) (high low v w a b : ℕ) (lh
     parted = sides (typeAt g high) (typeAt g low) v w typed
 
     pub high-small : a < 2 ^ (w - v)
-    high-small = subst (λ (t : ScalarType). a < size t) (parted .high) (value-small ρ g inv high lh a eh)
+    high-small = subst (λ (t : ScalarType). a < size t) (parted .high) (value-small inv high lh a eh)
 
     pub low-small : b < 2 ^ v
-    low-small = subst (λ (t : ScalarType). b < size t) (parted .low) (value-small ρ g inv low ll b el)
+    low-small = subst (λ (t : ScalarType). b < size t) (parted .low) (value-small inv low ll b el)
 
     upper : (i : ℕ) → v ≤ i → bit (a * 2 ^ v + b) i ≡ bit a (i - v)
     upper i l = let e : i ≡ v + (i - v) = omega arith in ap (bit (a * 2 ^ v + b)) e ∙ bit-high a b v (i - v) low-small
@@ -664,7 +644,7 @@ record OrSays (ρ : Env) (g : List ℕ) (i y c w : ℕ) : Type 0 where
 module _ (ρ : Env) (g : List ℕ) (inv : Inv ρ g) where
   -- a constant operand of a Bits(w) operation
   literal-small : (j c w : ℕ) → j < countOf g → typeAt g j ≡ ty.Bits w → literal g j ≡ some c → c < 2 ^ w
-  literal-small j c w l t e = subst (λ (k : ScalarType). c < size k) t (value-small ρ g inv j l c (literal-value ρ g inv j c l e))
+  literal-small j c w l t e = subst (λ (k : ScalarType). c < size k) t (value-small inv j l c (literal-value ρ g inv j c l e))
 
   valued-is : (t : ScalarType) (w z v : ℕ) → t ≡ ty.Bits w → z < 2 ^ w → valued t z ≡ some v → v ≡ z
   valued-is t w z v q l e =
@@ -675,8 +655,8 @@ module _ (ρ : Env) (g : List ℕ) (inv : Inv ρ g) where
       → value ρ g i ≡ some x → value ρ g n ≡ some y → AndSays x y c w
   and-value n i j c w x y l e lit t ex ey =
       let b = below-at ρ g inv n l (node.binary bi.And i j) e in
-      let q = both-is (sameType (typeAt g i) (typeAt g n)) (sameType (typeAt g j) (typeAt g n)) (typed-at ρ g inv n l (node.binary bi.And i j) e) in
-      let small : c < 2 ^ w = literal-small j c w (omega arith) (type-is (typeAt g j) (typeAt g n) (q .1) ∙ t) lit in
+      let q = tests (sameType (typeAt g i) (typeAt g n)) (sameType (typeAt g j) (typeAt g n)) (typed-at ρ g inv n l (node.binary bi.And i j) e) in
+      let small : c < 2 ^ w = literal-small j c w (omega arith) (same-type (typeAt g j) (typeAt g n) (q .1) ∙ t) lit in
       let s = operands ρ g (typeAt g n) bi.And i j y (means-at ρ g inv n l y ey (node.binary bi.And i j) e) in
       let xs : s .x ≡ x = some-is (sym (s .left) ∙ ex) in
       let ys : s .y ≡ c = some-is (sym (s .right) ∙ literal-value ρ g inv j c (omega arith) lit) in
@@ -687,12 +667,12 @@ module _ (ρ : Env) (g : List ℕ) (inv : Inv ρ g) where
       → value ρ g n ≡ some y → OrSays ρ g i y c w
   or-value n i j c w y l e lit t ey =
       let b = below-at ρ g inv n l (node.binary bi.Or i j) e in
-      let q = both-is (sameType (typeAt g i) (typeAt g n)) (sameType (typeAt g j) (typeAt g n)) (typed-at ρ g inv n l (node.binary bi.Or i j) e) in
-      let ti : typeAt g i ≡ ty.Bits w = type-is (typeAt g i) (typeAt g n) (q .0) ∙ t in
-      let small : c < 2 ^ w = literal-small j c w (omega arith) (type-is (typeAt g j) (typeAt g n) (q .1) ∙ t) lit in
+      let q = tests (sameType (typeAt g i) (typeAt g n)) (sameType (typeAt g j) (typeAt g n)) (typed-at ρ g inv n l (node.binary bi.Or i j) e) in
+      let ti : typeAt g i ≡ ty.Bits w = same-type (typeAt g i) (typeAt g n) (q .0) ∙ t in
+      let small : c < 2 ^ w = literal-small j c w (omega arith) (same-type (typeAt g j) (typeAt g n) (q .1) ∙ t) lit in
       let s = operands ρ g (typeAt g n) bi.Or i j y (means-at ρ g inv n l y ey (node.binary bi.Or i j) e) in
       let ys : s .y ≡ c = some-is (sym (s .right) ∙ literal-value ρ g inv j c (omega arith) lit) in
-      let ls : s .x < 2 ^ w = subst (λ (k : ScalarType). s .x < size k) ti (value-small ρ g inv i (omega arith) (s .x) (s .left)) in
+      let ls : s .x < 2 ^ w = subst (λ (k : ScalarType). s .x < size k) ti (value-small inv i (omega arith) (s .x) (s .left)) in
       let m : valued (typeAt g n) (bitOr (s .x) c) ≡ some y = rw (← ys) (or-means (typeAt g n) (s .x) (s .y) y (s .means)) in
       record {
         left = s .x;
@@ -797,13 +777,13 @@ module _ (ρ : Env) (g : List ℕ) (inv : Inv ρ g) (o : Binary) where
     changed-says : (w : ℕ) (u : Update) (c : Chain) → typeAt g base ≡ ty.Bits w → typeAt g updated ≡ ty.Bits w → updateAt g updated ≡ some u
         → chainAt g (u .preserved) ≡ some c → keeps base w (u .literal) c ≡ true → MaskSays ρ g o x y (changed o base w (u .literal) c)
     changed-says w u c tb tu eu ec k =
-        let p = both-is (sameBinary (c .op) bi.And) (both (eqb (c .base) base) (both (eqb (bitAnd (u .literal) (c .value)) 0) (leb (u .literal) (mask w)))) k in
-        let q = both-is (eqb (c .base) base) (both (eqb (bitAnd (u .literal) (c .value)) 0) (leb (u .literal) (mask w))) (p .1) in
-        let r = both-is (eqb (bitAnd (u .literal) (c .value)) 0) (leb (u .literal) (mask w)) (q .1) in
+        let p = tests (sameBinary (c .op) bi.And) (both (eqb (c .base) base) (both (eqb (bitAnd (u .literal) (c .value)) 0) (leb (u .literal) (mask w)))) k in
+        let q = tests (eqb (c .base) base) (both (eqb (bitAnd (u .literal) (c .value)) 0) (leb (u .literal) (mask w))) (p .1) in
+        let r = tests (eqb (bitAnd (u .literal) (c .value)) 0) (leb (u .literal) (mask w)) (q .1) in
         let same : c .base ≡ base = eqb-true (c .base) base (q .0) in
         let s =
         update-says ρ g inv updated w x y lu tu ey c (binary-is (c .op) bi.And (p .0)) (ap (value ρ g) same ∙ ex) u eu ec in
-        let lx : x < 2 ^ w = subst (λ (h : ScalarType). x < size h) tb (value-small ρ g inv base lb x ex) in
+        let lx : x < 2 ^ w = subst (λ (h : ScalarType). x < size h) tb (value-small inv base lb x ex) in
         let lw : w ≤ 128 = subst (λ (h : ScalarType). typeWidth h ≤ 128) tb (inv .width base lb) in
         let m : bitAnd (u128.not (c .value)) (mask w) ≡ 2 ^ w - 1 - c .value = mask-is w (c .value) lw (s .keep) in
         record {
@@ -845,7 +825,7 @@ module _ (ρ : Env) (g : List ℕ) (inv : Inv ρ g) (o : Binary) where
                 → cond b (given u (λ h. lookUpdate g o base w h) end) next ≡ found m → MaskSays ρ g o x y m
             typed false tu u eu e = absurd (next-found e)
             typed true tu none eu e = absurd (end-found e)
-            typed true tu (some u) eu e = chain u eu (type-is (typeAt g updated) (ty.Bits w) tu) (chainAt g (u .preserved)) refl e
+            typed true tu (some u) eu e = chain u eu (same-type (typeAt g updated) (ty.Bits w) tu) (chainAt g (u .preserved)) refl e
 
   -- either node being the base
   pub masked-sound : (left right x y : ℕ) → left < countOf g → right < countOf g → value ρ g left ≡ some x → value ρ g right ≡ some y → (m : Mask)
