@@ -1,5 +1,5 @@
 // Adapts the original twice, with a way in to its private parts: as it is, and metered. Links the proved library.
-// LIBRARY is the folder that holds libnative.a, by default target/staticlib of the repository.
+// LIBRARY is the folder that holds libexport.a, by default target/staticlib of the repository.
 #[path = "../original/adapt.rs"]
 mod adapt;
 #[allow(dead_code)]
@@ -95,13 +95,13 @@ fn counted((number, site): (usize, Site)) -> Change {
 
 // Without the library the driver can still be built, and compares a program.
 fn link_library(folder: &Path) {
-    let archive = folder.join("libnative.a");
+    let archive = folder.join("libexport.a");
     println!("cargo::rerun-if-changed={}", archive.display());
     println!("cargo::rustc-check-cfg=cfg(library)");
     if archive.exists() {
         println!("cargo::rustc-cfg=library");
         println!("cargo::rustc-link-search=native={}", folder.display());
-        println!("cargo::rustc-link-lib=static=native");
+        println!("cargo::rustc-link-lib=static=export");
     }
 }
 

@@ -18,7 +18,7 @@ use Rattle.graph.specs.Insert.{Reply, id, nothing, room, units, builtOf, insert
 use Rattle.graph.specs.declared.Built.{Built}
 use Rattle.graph.specs.declared.Built.the-variants as built
 use Rattle.graph.proofs.Built.{the-type}
-use Rattle.fold.specs.Bitfield.{Mask}
+use Rattle.bitfield.specs.Bitfield.{Mask}
 use Rattle.plan.specs.Plan.{attemptOf}
 use Rattle.plan.specs.declared.Attempt.{Attempt}
 use Rattle.plan.specs.declared.Rest.{Rest}

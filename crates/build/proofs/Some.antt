@@ -22,8 +22,8 @@ use Rattle.plan.specs.Plan as plan
 use Rattle.plan.specs.Plan.{Plan}
 use Rattle.build.specs.Rest.{restPlan}
 use Rattle.plan.specs.Single.{identityPlan}
-use Rattle.fold.specs.Bitfield.{above, Field, bitfield}
-use Rattle.plan.specs.Slice.{lowered, boundedPlan, newSlice, sliceOperation, slicePart, slicePlan, sliceFirst, concatPlan, cutOf, adjacent, Cut, joined, joinedPlan, fieldPlan, concatField, concatOpen, concatFirst}
+use Rattle.bitfield.specs.Bitfield.{above, Field, bitfield}
+use Rattle.plan_slice.specs.Slice.{lowered, boundedPlan, newSlice, sliceOperation, slicePart, slicePlan, sliceFirst, concatPlan, cutOf, adjacent, Cut, joined, joinedPlan, fieldPlan, concatField, concatOpen, concatFirst}
 use Rattle.build.specs.Build.{Call, identity, slice, concat, Out, out, Prog, add, call, tries, answer, tail, constantThen, planProg, firstProg, attemptProg, onId, onOut, onNone, exec, run, build}
 use Rattle.build.proofs.Laws.{reply}
 

@@ -18,12 +18,12 @@ use Rattle.graph.specs.Node.{Op, typeAt}
 use Rattle.graph.specs.Insert.{Reply, id, nothing, room, units, resolve, inserted, constantInterval}
 use Rattle.fold.specs.Shape.{mask}
 use Rattle.plan.specs.Plan as plan
-use Rattle.fold.specs.Bitfield.{Mask}
+use Rattle.bitfield.specs.Bitfield.{Mask}
 use Rattle.plan.specs.Plan.{Plan, Attempt, First}
 use Rattle.build.specs.Rest.{restPlan}
 use Rattle.plan.specs.Single.{identityPlan, unaryFirst, modularPlan}
 use Rattle.plan_binary.specs.Binary.{binaryFirst}
-use Rattle.plan.specs.Slice.{sliceFirst, concatFirst}
+use Rattle.plan_slice.specs.Slice.{sliceFirst, concatFirst}
 
 -- a call of one of the six builders
 pub data Call : Type 0 where

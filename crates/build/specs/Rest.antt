@@ -4,7 +4,7 @@ use Prim.Native.Nat.{ℕ}
 use Rattle.plan.specs.Plan.{Plan, Rest, unaryRest, binaryRest, sliceRest, concatRest}
 use Rattle.plan.specs.Single.{unaryPlan}
 use Rattle.plan_binary.specs.Binary.{binaryPlan}
-use Rattle.plan.specs.Slice.{slicePlan, concatPlan}
+use Rattle.plan_slice.specs.Slice.{slicePlan, concatPlan}
 
 -- the plan of the rest, on the region as it then is
 unfoldable pub restPlan : List ℕ → Rest → Plan

@@ -7,9 +7,9 @@ ghost use Rattle.build.specs.Rest.{restPlan};
 use plan::Plan;
 use plan::Rest;
 use plan::single::unary_plan;
-use plan::slice::concat_plan;
-use plan::slice::slice_plan;
 use plan_binary::binary::binary_plan;
+use plan_slice::slice::concat_plan;
+use plan_slice::slice::slice_plan;
 
 pub fn rest_plan(g: &[u64], rest: Rest) -> Plan
     requires { ⌜ length (now g) ≡ REGION ⌝ }

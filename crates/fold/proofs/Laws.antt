@@ -1,19 +1,15 @@
--- Laws of the walks along nodes and bits, one step each, and of words. Assumes nothing.
+-- Laws of the walk down a chain of Refines, one step each, and of words. Assumes nothing.
 use mathlib.Core.Path.{_≡_, refl, _∙_}
-use mathlib.Core.Bool.{true, false, not}
+use mathlib.Core.Bool.{true, false}
 use mathlib.Core.List.{List}
 use mathlib.Core.Option.{none, some}
 use Prim.Native.Nat.{ℕ, zero, suc, _+_, _-_, _%_, _^_, _<_}
 use native.Mathlib.Nat.{zero-add, add-mod-right, mod-eq-of-lt}
-use native.Mathlib.Numerals.{add-one}
 use native.Mathlib.Omega.{arith}
-use borrow.Author.Tests.{ne-eqb, lt-ltb}
 use lib.Count.{ones}
-use lib.Dec.{eqb, ltb}
 use Rattle.word.specs.Value.{val, isPowerOfTwo}
 use Rattle.word.specs.declared.Word.{Word}
 use Rattle.fold.specs.Shape.{refinedAt, down}
-use Rattle.fold.specs.Bitfield.{Bit, BitStep, Field, bitStep, bitAt, reached, concatBit, withBit, fieldFrom}
 
 -- ---- down a chain of Refines
 
@@ -24,25 +20,6 @@ module _ (g : List ℕ) (n : ℕ) where
 
   pub down-on : (k j p : ℕ) → k ≡ suc j → refinedAt g n ≡ some p → down g k n ≡ down g j p
   down-on k j p h e = rw (h, e)
-
--- ---- one bit
-
-pub bit-reached : (g : List ℕ) (k j n i : ℕ) (s : BitStep) → k ≡ suc j → s ≡ bitStep g n i → reached s (bitAt g j) ≡ bitAt g k n i
-unfolding bitAt
-bit-reached g k j n i s h e = rw (h, e)
-
--- ---- the bits of a concat
-
-module _ (g : List ℕ) (high low v i : ℕ) (f : Field) (k j : ℕ) (more : k ≡ suc j) where
-  pub field-none : concatBit g high low v i ≡ none → fieldFrom g high low v i k f ≡ none
-  field-none e = rw (more, e)
-
-  pub field-stop : (b : Bit) → concatBit g high low v i ≡ some b → withBit f i b ≡ none → fieldFrom g high low v i k f ≡ none
-  field-stop b e w = rw (more, e, w)
-
-  pub field-on : (b : Bit) (l : Field) → concatBit g high low v i ≡ some b → withBit f i b ≡ some l
-      → fieldFrom g high low v i k f ≡ fieldFrom g high low v (i + 1) j l
-  field-on b l e w = rw (more, e, w, add-one)
 
 -- ---- words
 

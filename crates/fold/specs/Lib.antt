@@ -1,4 +1,3 @@
 pub mod Operator
 pub mod Shape
 pub mod Range
-pub mod Bitfield

@@ -13,7 +13,7 @@ use Rattle.evaluate.specs.declared.Unary.the-variants as un
 use Rattle.evaluate.specs.declared.Binary.{Binary}
 use Rattle.evaluate.specs.declared.Binary.the-variants as bi
 use Rattle.graph.specs.Insert.{orElse}
-use Rattle.fold.specs.Shape.{given}
+use Rattle.fold.specs.Shape.{given, sameBinary}
 use Rattle.fold.specs.declared.Derived as declared
 use Rattle.fold.specs.declared.Derived.the-variants as derived
 use Rattle.fold.specs.declared.MaybeBool as declared-bool
@@ -62,47 +62,25 @@ unaryRange t (un.TrailingZeros w) r = some (typeInterval t)
 
 -- the rules on Integer (native.rs 510 to 548)
 unfoldable pub integerRule : Binary → Interval → Interval → Option Interval
-integerRule bi.Add a b = addInterval a b
-integerRule bi.Sub a b = subInterval a b
-integerRule bi.Mul a b = mulInterval a b
-integerRule bi.And a b = andInterval a b
-integerRule bi.Or a b = none
-integerRule bi.Xor a b = none
-integerRule bi.ShiftLeft a b = none
-integerRule bi.ShiftRight a b = none
-integerRule bi.ArithmeticShiftRight a b = none
-integerRule bi.Equal a b = none
-integerRule bi.NotEqual a b = none
-integerRule bi.LessSigned a b = none
-integerRule bi.LessUnsigned a b = none
-integerRule bi.LessEqualSigned a b = none
-integerRule bi.LessEqualUnsigned a b = none
-integerRule bi.DivideSigned a b = quotInterval a b
-integerRule bi.RemainderSigned a b = remInterval a b
-integerRule bi.DivideUnsigned a b = udivInterval a b
-integerRule bi.RemainderUnsigned a b = uremInterval a b
+integerRule o a b =
+    cond (sameBinary o bi.Add) (addInterval a b)
+    (cond (sameBinary o bi.Sub) (subInterval a b)
+    (cond (sameBinary o bi.Mul) (mulInterval a b)
+    (cond (sameBinary o bi.And) (andInterval a b)
+    (cond (sameBinary o bi.DivideSigned) (quotInterval a b)
+    (cond (sameBinary o bi.RemainderSigned) (remInterval a b)
+    (cond (sameBinary o bi.DivideUnsigned) (udivInterval a b)
+    (cond (sameBinary o bi.RemainderUnsigned) (uremInterval a b) none)))))))
 
 -- the rules on Bits, before the result is held to its type (native.rs 554 to 580)
 unfoldable pub bitsRule : Binary → Interval → Interval → Option Interval
-bitsRule bi.Add a b = addInterval a b
-bitsRule bi.Sub a b = subInterval a b
-bitsRule bi.Mul a b = mulInterval a b
-bitsRule bi.And a b = andInterval a b
-bitsRule bi.Or a b = none
-bitsRule bi.Xor a b = none
-bitsRule bi.ShiftLeft a b = shlInterval a b
-bitsRule bi.ShiftRight a b = shrInterval a b
-bitsRule bi.ArithmeticShiftRight a b = none
-bitsRule bi.Equal a b = none
-bitsRule bi.NotEqual a b = none
-bitsRule bi.LessSigned a b = none
-bitsRule bi.LessUnsigned a b = none
-bitsRule bi.LessEqualSigned a b = none
-bitsRule bi.LessEqualUnsigned a b = none
-bitsRule bi.DivideSigned a b = none
-bitsRule bi.RemainderSigned a b = none
-bitsRule bi.DivideUnsigned a b = none
-bitsRule bi.RemainderUnsigned a b = none
+bitsRule o a b =
+    cond (sameBinary o bi.Add) (addInterval a b)
+    (cond (sameBinary o bi.Sub) (subInterval a b)
+    (cond (sameBinary o bi.Mul) (mulInterval a b)
+    (cond (sameBinary o bi.And) (andInterval a b)
+    (cond (sameBinary o bi.ShiftLeft) (shlInterval a b)
+    (cond (sameBinary o bi.ShiftRight) (shrInterval a b) none)))))
 
 -- a range that lies in Bits(w), if there is one
 abbrev pub heldTo : ℕ → Option Interval → Option Interval
@@ -145,22 +123,10 @@ unsignedToo a b = both (nonnegative a) (nonnegative b)
 
 -- what the ranges of its operands say of a comparison
 unfoldable pub comparison : Binary → Interval → Interval → Option Bool
-comparison bi.Add a b = none
-comparison bi.Sub a b = none
-comparison bi.Mul a b = none
-comparison bi.And a b = none
-comparison bi.Or a b = none
-comparison bi.Xor a b = none
-comparison bi.ShiftLeft a b = none
-comparison bi.ShiftRight a b = none
-comparison bi.ArithmeticShiftRight a b = none
-comparison bi.Equal a b = equalRanges a b
-comparison bi.NotEqual a b = mapped not (equalRanges a b)
-comparison bi.LessSigned a b = lessRanges a b
-comparison bi.LessUnsigned a b = provided (unsignedToo a b) (lessRanges a b)
-comparison bi.LessEqualSigned a b = lessEqualRanges a b
-comparison bi.LessEqualUnsigned a b = provided (unsignedToo a b) (lessEqualRanges a b)
-comparison bi.DivideSigned a b = none
-comparison bi.RemainderSigned a b = none
-comparison bi.DivideUnsigned a b = none
-comparison bi.RemainderUnsigned a b = none
+comparison o a b =
+    cond (sameBinary o bi.Equal) (equalRanges a b)
+    (cond (sameBinary o bi.NotEqual) (mapped not (equalRanges a b))
+    (cond (sameBinary o bi.LessSigned) (lessRanges a b)
+    (cond (sameBinary o bi.LessUnsigned) (provided (unsignedToo a b) (lessRanges a b))
+    (cond (sameBinary o bi.LessEqualSigned) (lessEqualRanges a b)
+    (cond (sameBinary o bi.LessEqualUnsigned) (provided (unsignedToo a b) (lessEqualRanges a b)) none)))))

@@ -6,6 +6,7 @@ ghost use Rattle.word.specs.Value.{provided};
 ghost use mathlib.Core.Bool.{not};
 ghost use Rattle.fold.specs.Range.{truthOf, apart, equalRanges, lessRanges, lessEqualRanges, unsignedToo, comparison, bothGiven};
 use crate::MaybeBool;
+use crate::operator::same_binary;
 use evaluate::Binary;
 use range::MaybeRange;
 use range::Range;
@@ -95,27 +96,25 @@ fn if_unsigned(is: bool, truth: MaybeBool) -> MaybeBool
 fn comparison(op: Binary, a: Range, b: Range) -> MaybeBool
     ensures { λ r. ⌜ truthOf r ≡ comparison op (boundsOf a) (boundsOf b) ⌝ }
 {
-    match op {
-        Binary::Add => MaybeBool::None,
-        Binary::Sub => MaybeBool::None,
-        Binary::Mul => MaybeBool::None,
-        Binary::And => MaybeBool::None,
-        Binary::Or => MaybeBool::None,
-        Binary::Xor => MaybeBool::None,
-        Binary::ShiftLeft => MaybeBool::None,
-        Binary::ShiftRight => MaybeBool::None,
-        Binary::ArithmeticShiftRight => MaybeBool::None,
-        Binary::Equal => equal_ranges(a, b),
-        Binary::NotEqual => turned(equal_ranges(a, b)),
-        Binary::LessSigned => less_ranges(a, b),
-        Binary::LessUnsigned => if_unsigned(unsigned_too(a, b), less_ranges(a, b)),
-        Binary::LessEqualSigned => less_equal_ranges(a, b),
-        Binary::LessEqualUnsigned => if_unsigned(unsigned_too(a, b), less_equal_ranges(a, b)),
-        Binary::DivideSigned => MaybeBool::None,
-        Binary::RemainderSigned => MaybeBool::None,
-        Binary::DivideUnsigned => MaybeBool::None,
-        Binary::RemainderUnsigned => MaybeBool::None,
+    if same_binary(op, Binary::Equal) {
+        return equal_ranges(a, b);
     }
+    if same_binary(op, Binary::NotEqual) {
+        return turned(equal_ranges(a, b));
+    }
+    if same_binary(op, Binary::LessSigned) {
+        return less_ranges(a, b);
+    }
+    if same_binary(op, Binary::LessUnsigned) {
+        return if_unsigned(unsigned_too(a, b), less_ranges(a, b));
+    }
+    if same_binary(op, Binary::LessEqualSigned) {
+        return less_equal_ranges(a, b);
+    }
+    if same_binary(op, Binary::LessEqualUnsigned) {
+        return if_unsigned(unsigned_too(a, b), less_equal_ranges(a, b));
+    }
+    MaybeBool::None
 }
 
 // What two ranges say of a comparison, if both are there.

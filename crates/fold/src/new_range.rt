@@ -3,6 +3,7 @@ ghost use mathlib.Core.Path.{_≡_};
 ghost use Rattle.range.specs.Interval.{boundsOf, intervalOf};
 ghost use Rattle.fold.specs.Range.{derivedOf, bothGiven, extendedRange, negatedRange, bitsRange, unaryRange, integerRule, bitsRule, heldTo, binaryRange};
 use crate::Derived;
+use crate::operator::same_binary;
 use evaluate::Binary;
 use evaluate::Unary;
 use range::MaybeRange;
@@ -50,53 +51,55 @@ pub fn unary_range(ty: ScalarType, op: Unary, range: MaybeRange) -> Derived
 fn integer_rule(op: Binary, a: Range, b: Range) -> MaybeRange
     ensures { λ r. ⌜ intervalOf r ≡ integerRule op (boundsOf a) (boundsOf b) ⌝ }
 {
-    match op {
-        Binary::Add => a.add(b),
-        Binary::Sub => a.sub(b),
-        Binary::Mul => a.mul(b),
-        Binary::And => a.and(b),
-        Binary::Or => MaybeRange::None,
-        Binary::Xor => MaybeRange::None,
-        Binary::ShiftLeft => MaybeRange::None,
-        Binary::ShiftRight => MaybeRange::None,
-        Binary::ArithmeticShiftRight => MaybeRange::None,
-        Binary::Equal => MaybeRange::None,
-        Binary::NotEqual => MaybeRange::None,
-        Binary::LessSigned => MaybeRange::None,
-        Binary::LessUnsigned => MaybeRange::None,
-        Binary::LessEqualSigned => MaybeRange::None,
-        Binary::LessEqualUnsigned => MaybeRange::None,
-        Binary::DivideSigned => a.divide_signed(b),
-        Binary::RemainderSigned => a.remainder_signed(b),
-        Binary::DivideUnsigned => a.divide_unsigned(b),
-        Binary::RemainderUnsigned => a.remainder_unsigned(b),
+    if same_binary(op, Binary::Add) {
+        return a.add(b);
     }
+    if same_binary(op, Binary::Sub) {
+        return a.sub(b);
+    }
+    if same_binary(op, Binary::Mul) {
+        return a.mul(b);
+    }
+    if same_binary(op, Binary::And) {
+        return a.and(b);
+    }
+    if same_binary(op, Binary::DivideSigned) {
+        return a.divide_signed(b);
+    }
+    if same_binary(op, Binary::RemainderSigned) {
+        return a.remainder_signed(b);
+    }
+    if same_binary(op, Binary::DivideUnsigned) {
+        return a.divide_unsigned(b);
+    }
+    if same_binary(op, Binary::RemainderUnsigned) {
+        return a.remainder_unsigned(b);
+    }
+    MaybeRange::None
 }
 
 fn bits_rule(op: Binary, a: Range, b: Range) -> MaybeRange
     ensures { λ r. ⌜ intervalOf r ≡ bitsRule op (boundsOf a) (boundsOf b) ⌝ }
 {
-    match op {
-        Binary::Add => a.add(b),
-        Binary::Sub => a.sub(b),
-        Binary::Mul => a.mul(b),
-        Binary::And => a.and(b),
-        Binary::Or => MaybeRange::None,
-        Binary::Xor => MaybeRange::None,
-        Binary::ShiftLeft => a.shift_left(b),
-        Binary::ShiftRight => a.shift_right(b),
-        Binary::ArithmeticShiftRight => MaybeRange::None,
-        Binary::Equal => MaybeRange::None,
-        Binary::NotEqual => MaybeRange::None,
-        Binary::LessSigned => MaybeRange::None,
-        Binary::LessUnsigned => MaybeRange::None,
-        Binary::LessEqualSigned => MaybeRange::None,
-        Binary::LessEqualUnsigned => MaybeRange::None,
-        Binary::DivideSigned => MaybeRange::None,
-        Binary::RemainderSigned => MaybeRange::None,
-        Binary::DivideUnsigned => MaybeRange::None,
-        Binary::RemainderUnsigned => MaybeRange::None,
+    if same_binary(op, Binary::Add) {
+        return a.add(b);
     }
+    if same_binary(op, Binary::Sub) {
+        return a.sub(b);
+    }
+    if same_binary(op, Binary::Mul) {
+        return a.mul(b);
+    }
+    if same_binary(op, Binary::And) {
+        return a.and(b);
+    }
+    if same_binary(op, Binary::ShiftLeft) {
+        return a.shift_left(b);
+    }
+    if same_binary(op, Binary::ShiftRight) {
+        return a.shift_right(b);
+    }
+    MaybeRange::None
 }
 
 // The rule on Integer where both operands have a range.

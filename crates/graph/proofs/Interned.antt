@@ -60,7 +60,7 @@ module _ (p : ℕ → Bool) where
 -- ---- the key of a node
 
 -- where the words are the same, each of them is
-each-word : (g : List ℕ) (at n : ℕ) (ws : List ℕ) → n ≤ length ws → sameWords g at (take n ws) ≡ true → (k : ℕ) → k < n → getD g (at + k) 0 ≡ getD ws k 0
+pub each-word : (g : List ℕ) (at n : ℕ) (ws : List ℕ) → n ≤ length ws → sameWords g at (take n ws) ≡ true → (k : ℕ) → k < n → getD g (at + k) 0 ≡ getD ws k 0
 each-word g at zero ws l e k h = absurd (omega arith)
 each-word g at (suc n) [] l e k h = absurd (omega arith)
 each-word g at (suc n) (w ∷ ws) l e k h = by (eqb (getD g at 0) w) refl (λ f. each-word g (suc at) n ws (omega arith) f) e k h
@@ -72,6 +72,15 @@ each-word g at (suc n) (w ∷ ws) l e k h = by (eqb (getD g at 0) w) refl (λ f.
     by false t later e k h = let z : _≡_ {A = ℕ} 0 1 = cc in absurd (omega arith)
     by true t later e zero h = rw add-zero (eqb-true (getD g at 0) w t)
     by true t later e (suc k) h = let d : at + suc k ≡ suc at + k = omega arith in rw d (later e k (omega arith))
+
+-- where one word differs, the words are not the same
+pub word-differs : (g : List ℕ) (at n : ℕ) (ws : List ℕ) → n ≤ length ws → (k : ℕ) → k < n → (getD g (at + k) 0 ≡ getD ws k 0 → ⊥)
+    → sameWords g at (take n ws) ≡ false
+word-differs g at n ws l k h d = by (sameWords g at (take n ws)) refl
+  where
+    by : (t : Bool) → sameWords g at (take n ws) ≡ t → sameWords g at (take n ws) ≡ false
+    by true e = absurd (d (each-word g at n ws l e k h))
+    by false e = e
 
 -- and where each of them is, the words are
 all-words : (g : List ℕ) (at n : ℕ) (ws : List ℕ) → ((k : ℕ) → k < n → getD g (at + k) 0 ≡ getD ws k 0) → sameWords g at (take n ws) ≡ true

@@ -6,3 +6,4 @@ pub mod Search
 pub mod Interned
 pub mod Kept
 pub mod Wiping
+pub mod Appended

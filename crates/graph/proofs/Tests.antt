@@ -6,7 +6,8 @@ use mathlib.Core.Logic.{⊎-elim}
 use Prim.Native.Nat.{ℕ, zero, suc, _+_, _<_, _≤_}
 use native.Mathlib.Numerals.{add-one}
 use native.Mathlib.Omega.{arith}
-use borrow.Author.Tests.{eq-eqb, ne-eqb, lt-ltb, le-ltb}
+use borrow.Author.Tests.{ne-eqb, lt-ltb, le-ltb}
+use lib.Bits.{bitOr, or-add-and, and-le-r}
 use lib.Dec.{ltb, eqb}
 use lib.ListN.{length, getD, drop, drop-of-length-le}
 use lib.Seq.{drop-cons}
@@ -69,14 +70,23 @@ module _ (p : ℕ → Bool) where
   all-pass zero h = refl
   all-pass (suc m) h = rw (all-pass m (λ n l. h n (omega arith))) (h m (omega arith))
 
--- ---- are_zeros: a zero passed, another word, and the end
+-- ---- are_zeros: words passed, and the end
+
+-- an Or is 0 if both numbers are
+or-test : (a b : ℕ) → eqb (bitOr a b) 0 ≡ both (eqb a 0) (eqb b 0)
+or-test zero b = refl
+or-test (suc a) b =
+    rw (ne-eqb (bitOr (suc a) b) 0 (λ e. omega (arith, or-add-and (suc a) b, and-le-r (suc a) b)), ne-eqb (suc a) 0 (λ e. omega arith))
+
+both-assoc : (s t u : Bool) → both s (both t u) ≡ both (both s t) u
+both-assoc true t u = refl
+both-assoc false t u = refl
 
 module _ (g : List ℕ) (at : ℕ) where
-  pub zeros-on : at < length g → getD g at 0 ≡ 0 → areZeros (drop at g) ≡ areZeros (drop (at + 1) g)
-  zeros-on h e = rw (drop-cons g at 0 h, eq-eqb (getD g at 0) 0 e, add-one at)
-
-  pub zeros-off : at < length g → (getD g at 0 ≡ 0 → ⊥) → areZeros (drop at g) ≡ false
-  zeros-off h e = rw (drop-cons g at 0 h, ne-eqb (getD g at 0) 0 e)
+  -- ones are the bits of the words before `at`
+  pub zeros-on : (ones : ℕ) → at < length g
+      → both (eqb ones 0) (areZeros (drop at g)) ≡ both (eqb (bitOr ones (getD g at 0)) 0) (areZeros (drop (at + 1) g))
+  zeros-on ones h = rw (drop-cons g at 0 h, add-one at, or-test ones (getD g at 0)) (both-assoc (eqb ones 0) (eqb (getD g at 0) 0) (areZeros (drop (suc at) g)))
 
   pub zeros-end : length g ≤ at → areZeros (drop at g) ≡ true
   zeros-end h = rw (drop-of-length-le g h)

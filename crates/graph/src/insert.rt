@@ -22,8 +22,8 @@ use crate::read::resolve;
 use range::MaybeRange;
 use range::ScalarType;
 
-// Are the words from `at` on the node's key?
-fn same_key(g: &[u64], at: usize, words: &[u64; SIZE]) -> bool
+// Are the words from `at` on the node's key, one by one?
+fn same_words(g: &[u64], at: usize, words: &[u64; SIZE]) -> bool
     requires { ⌜ (at + KEY ≤ length (now g)) × (length (now words) ≡ WORDS) ⌝ }
     ensures { λ r. ⌜ r ≡ sameWords (now (g .entry)) at (take KEY (now (words .entry))) ⌝ }
 {
@@ -35,6 +35,17 @@ fn same_key(g: &[u64], at: usize, words: &[u64; SIZE]) -> bool
         k += 1;
     }
     true
+}
+
+// The same: the operation's first field tells most nodes apart, so it is looked at first.
+fn same_key(g: &[u64], at: usize, words: &[u64; SIZE]) -> bool
+    requires { ⌜ (at + KEY ≤ length (now g)) × (length (now words) ≡ WORDS) ⌝ }
+    ensures { λ r. ⌜ r ≡ sameWords (now (g .entry)) at (take KEY (now (words .entry))) ⌝ }
+{
+    if g[at + 8] != words[8] {
+        return false;
+    }
+    same_words(g, at, words)
 }
 
 // The lowest node from `from` on, below the count, with this key.

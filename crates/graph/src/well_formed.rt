@@ -149,18 +149,17 @@ fn are_nodes(g: &[u64], nodes: u64) -> bool
     true
 }
 
-// Are all words from `from` on 0?
+// Are all words from `from` on 0? It does not stop at the first that is not, so that several are read at a time.
 fn are_zeros(g: &[u64], from: usize) -> bool
     ensures { λ r. ⌜ r ≡ areZeros (drop from (now (g .entry))) ⌝ }
 {
+    let mut ones = 0;
     let mut at = from;
     while at < g.len() {
-        if g[at] != 0 {
-            return false;
-        }
+        ones |= g[at];
         at += 1;
     }
-    true
+    ones == 0
 }
 
 pub fn is_graph(g: &[u64]) -> bool

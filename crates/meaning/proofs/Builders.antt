@@ -1,9 +1,9 @@
--- Every plan is good, so the six builders are sound; and with them demand 3 holds of every list of calls. Assumes nothing.
+-- Every plan is good, so the six builders are sound; and with them demand 3, question 1 and keys hold of every list of calls. Assumes nothing.
 use mathlib.Core.Path.{_≡_, refl, sym, ap, _∙_, subst}
 use mathlib.Core.Bool.{Bool, true, false, cond, false≢true}
 use mathlib.Core.List.{List}
 use mathlib.Core.Option.{Option, none, some}
-use Prim.Native.Nat.{ℕ}
+use Prim.Native.Nat.{ℕ, _<_}
 use borrow.Author.Tests.{eqb-true}
 use Rattle.range.specs.declared.ScalarType.{ScalarType}
 use Rattle.range.specs.declared.ScalarType.the-variants as ty
@@ -11,12 +11,15 @@ use Rattle.evaluate.specs.Evaluate.{evaluateUnary}
 use Rattle.evaluate.specs.Operator.{unaryWidth}
 use Rattle.evaluate.specs.declared.Unary.{Unary}
 use Rattle.evaluate.specs.declared.Unary.the-variants as un
+use Rattle.graph.specs.Layout.{countOf}
+use Rattle.graph.specs.Node.{nodeAt}
+use Rattle.graph.specs.WellFormed.{isGraph}
 use Rattle.graph.specs.Insert.{literal, resolve}
 use Rattle.fold.specs.Shape.{given}
 use Rattle.plan.specs.Plan as plan
 use Rattle.plan.specs.Plan.{does, tries, unaryRest, constantOr}
 use Rattle.plan.specs.Single.{identityPlan, isReduction, unaryPlan, unaryOpen, unaryFirst, modularPlan}
-use Rattle.plan.specs.Slice.{sliceFirst, concatFirst}
+use Rattle.plan_slice.specs.Slice.{sliceFirst, concatFirst}
 use Rattle.plan_binary.specs.Binary.{binaryFirst}
 use Rattle.build.specs.Build.{Call, identity, unary, modular, binary, slice, concat, step, build}
 use Rattle.build.specs.Rest.{restPlan}
@@ -25,10 +28,11 @@ use Rattle.meaning.specs.Book.{Action, AllMet, play, Demand3}
 use Rattle.meaning.specs.Value.{Env, valued, andThen, unaryMeans, binaryMeans, sliceMeans, concatMeans, value}
 use Rattle.meaning.proofs.Binary.{binary-first-claim}
 use Rattle.meaning.proofs.Concat.{concat-first-claim}
+use Rattle.graph.proofs.Appended.{Keys}
 use Rattle.meaning.proofs.Invariant.{storedTyped, Inv, ext-here, ext-type, ext-value, Kept, resolve-leads}
 use Rattle.meaning.proofs.Modular.{modular-claim}
 use Rattle.meaning.proofs.Plans.{Claim, Tail, FirstClaim, perform-good, first-good}
-use Rattle.meaning.proofs.Play.{demand3-of}
+use Rattle.meaning.proofs.Play.{demand3-of, play-graph, grown}
 use Rattle.meaning.proofs.Slice.{slice-first-claim}
 use Rattle.meaning.proofs.Tested.{range-sound}
 use Rattle.meaning.proofs.Tree.{typeOf, meaning, Callable, Sound, Good, build-sound}
@@ -119,3 +123,18 @@ builds ρ = build-sound ρ (plans ρ)
 
 pub demand3 : (ρ : Env) (calls : List Action) → AllMet ρ (play ρ calls .book .conditions) → Demand3 ρ (play ρ calls)
 demand3 ρ = demand3-of ρ (builds ρ) (range-sound ρ (builds ρ))
+
+-- ---- question 1 and keys, of every list of calls from the empty graph, whatever the values
+
+-- the graph passes question 1
+pub grown-graph : (ρ : Env) (calls : List Action) → isGraph (play ρ calls .graph) ≡ true
+grown-graph ρ calls =
+    let (σ, i) = grown builds (λ σ. range-sound σ (builds σ)) calls in
+    ap isGraph (play-graph ρ σ calls) ∙ i .graph
+
+-- no two nodes have one type, range and operation
+pub grown-keys : (ρ : Env) (calls : List Action) (n m : ℕ) → n < m → m < countOf (play ρ calls .graph)
+    → nodeAt (play ρ calls .graph) n ≡ nodeAt (play ρ calls .graph) m → ⊥
+grown-keys ρ calls =
+    let (σ, i) = grown builds (λ σ. range-sound σ (builds σ)) calls in
+    subst Keys (play-graph σ ρ calls) (i .keys)

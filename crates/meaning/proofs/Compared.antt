@@ -4,14 +4,14 @@ use mathlib.Core.Bool.{Bool, true, false, not, cond}
 use mathlib.Core.Logic.{_⊎_, inl, inr, ⊎-elim}
 use mathlib.Core.Option.{Option, none, some}
 use Prim.Native.Nat.{ℕ, zero, suc, zero-le, _+_, _-_, _*_, _%_, _^_, _≤_, _<_}
-use native.Mathlib.Nat.{zero-mod, mod-eq-of-lt, le-refl, mul-one, div-one, mod-mod, min-eq-left}
+use native.Mathlib.Nat.{zero-mod, mod-eq-of-lt, le-refl, mul-one, div-one, mod-mod, min-eq-left, lt-of-le-of-lt}
 use native.Mathlib.Omega.{arith}
 use borrow.Author.Tests.{eq-eqb, ne-eqb, eqb-true, lt-ltb, le-ltb, le-leb}
-use lib.Bits.{bitAnd, bitOr, bitXor, and-self, or-self, xor-self, and-mask, and-mod, or-mod, xor-mod, and-zero-r, or-zero-r, xor-zero-r, or-add-and}
-use lib.Dec.{T, eqb, ltb, leb}
+use lib.Bits.{bitAnd, bitOr, bitXor, and-self, or-self, xor-self, and-le-r, and-mask, and-mod, or-mod, xor-mod, and-zero-r, or-zero-r, xor-zero-r, or-add-and}
+use lib.Dec.{eqb, ltb, leb}
 use lib.IntN.{ℤ, pos, negsuc, _+ℤ_, _-ℤ_, _*ℤ_, +ℤ-invr, +ℤ-idr, *ℤ-zero}
 use lib.Pow.{pow-pos, ones-lt}
-use lib.Signed.{mag, ltZ, leZ, shrZ, _≤ℤ_, leZ-yes, ≤ℤ-refl}
+use lib.Signed.{mag, ltZ, leZ, shrZ, _≤ℤ_, ≤ℤ-refl}
 use Rattle.word.specs.Value.{signed, residue, eqZ, provided, fits, fitted, isPowerOfTwo}
 use Rattle.word.proofs.Integer.{signed-low, signed-high, signed-mag, residue-signed, lt-or-ge}
 use Rattle.word.proofs.Counts.{power-of-two}
@@ -20,8 +20,9 @@ use Rattle.range.specs.Interval.{Interval, _∈_, both, sameInterval, nonnegati
 use Rattle.range.specs.declared.ScalarType.{ScalarType}
 use Rattle.range.specs.declared.ScalarType.the-variants as ty
 use Rattle.range.proofs.Order.{up, down, orders, less-true}
-use Rattle.range.proofs.Sound.{tests, either}
-use Rattle.evaluate.specs.Evaluate.{fromBool, mapped, reduced, shiftedLeft, shiftedRight, shiftWidth, arithmeticShift, evaluateBinary}
+use Rattle.range.proofs.Sound.{tests, either, at-most}
+use Rattle.range.proofs.Answers.{some-is}
+use Rattle.evaluate.specs.Evaluate.{fromBool, mapped, reduced, shiftedLeft, shiftedRight, shiftWidth, arithmeticShift, evaluateBinary, byType}
 use Rattle.evaluate.specs.declared.Binary.{Binary}
 use Rattle.evaluate.specs.declared.Binary.the-variants as bi
 use Rattle.evaluate.proofs.Fields.{residue-narrow}
@@ -30,15 +31,11 @@ use Rattle.bits.proofs.Logic.{and-assoc, or-assoc, xor-assoc, and-or}
 use Rattle.bits.proofs.Sums.{sub-same, sub-exact}
 use Rattle.fold.specs.Range.{apart, equalRanges, lessRanges, lessEqualRanges, unsignedToo, comparison}
 use Rattle.fold.specs.Shape.{mask}
-use Rattle.meaning.specs.Value.{size, integerOf}
-use Rattle.meaning.proofs.Values.{some-is}
+use Rattle.meaning.specs.Value.{size, integerOf, binaryMeans}
 use Rattle.meaning.proofs.Invariant.{Ends}
-use Rattle.meaning.proofs.Constants.{reduced-same, pattern}
+use Rattle.meaning.proofs.Constants.{reduced-same, pattern, size-pos, valued-same}
 
 -- ---- order and equality of integers in intervals
-
-at-most : (x y : ℤ) → leZ x y ≡ true → x ≤ℤ y
-at-most x y e = leZ-yes (subst T (sym e) tt)
 
 less-false : (x y : ℤ) → ltZ x y ≡ false → y ≤ℤ x
 less-false x y e = at-most y x (le-not-less y x e)
@@ -199,12 +196,6 @@ comparison-sound o s x y a b truth l m f g p q e =
 
 -- ---- one value twice
 
-reduced-zero : (t : ScalarType) → reduced t 0 ≡ 0
-reduced-zero ty.Bool = refl
-reduced-zero (ty.Bits w) = zero-mod (2 ^ w)
-reduced-zero ty.Integer = refl
-
--- a value of the type is as it is
 -- an integer of a pattern, as an answer
 answer : (z : ℤ) (x : ℕ) → x < 2 ^ 128 → z ≡ signed 128 x → mapped (residue 128) (fitted z) ≡ some x
 unfolding fits
@@ -212,30 +203,39 @@ answer z x l e =
     let m : mag (signed 128 x) < 2 ^ 127 = signed-mag 128 x (omega arith) l in
     rw (e, lt-ltb (mag (signed 128 x)) (2 ^ 127) m) (ap some (residue-signed 128 x l))
 
+-- what is the value x of the type t, as an answer
+module _ (t : ScalarType) (x : ℕ) (l : x < size t) where
+  kept : (n : ℕ) → n ≡ x → _≡_ {A = Option ℕ} (some (reduced t n)) (some x)
+  kept n e = ap (λ (n : ℕ). some (reduced t n)) e ∙ ap some (reduced-same t x l)
+
+  -- of a sum, a difference or a product: n in Bool and Bits, z in Integer
+  kept-sum : x < 2 ^ 128 → (n : ℕ) (z : ℤ) → n ≡ x → z ≡ signed 128 x → mapped (reduced t) (byType t (mapped (residue 128) (fitted z)) (some n)) ≡ some x
+  kept-sum m n z e f = go t (kept n e)
+    where
+      go : (t : ScalarType) → some (reduced t n) ≡ some x → mapped (reduced t) (byType t (mapped (residue 128) (fitted z)) (some n)) ≡ some x
+      go ty.Bool k = k
+      go (ty.Bits w) k = k
+      go ty.Integer k = ap (mapped (reduced ty.Integer)) (answer z x m f)
+
+zero-signed : signed 128 0 ≡ pos 0
+zero-signed = signed-low 128 0 (pow-pos 127)
+
 module _ (t : ScalarType) (x : ℕ) where
   pub sub-twice : x < 2 ^ 128 → evaluateBinary bi.Sub t x x ≡ some 0
   unfolding evaluateBinary
-  sub-twice l = go t
-    where
-      pattern : (x + (2 ^ 128 - x)) % 2 ^ 128 ≡ 0
-      pattern = sub-same x (2 ^ 128) l
-
-      go : (t : ScalarType) → evaluateBinary bi.Sub t x x ≡ some 0
-      go ty.Bool = ap some pattern
-      go (ty.Bits w) = ap (λ (n : ℕ). some (n % 2 ^ w)) pattern ∙ ap some (zero-mod (2 ^ w))
-      go ty.Integer = ap (mapped (reduced ty.Integer)) (answer (signed 128 x -ℤ signed 128 x) 0 (pow-pos 128) (+ℤ-invr (signed 128 x) ∙ sym (signed-low 128 0 (pow-pos 127))))
+  sub-twice l = kept-sum t 0 (size-pos t) (pow-pos 128) _ _ (sub-same x (2 ^ 128) l) (+ℤ-invr (signed 128 x) ∙ sym zero-signed)
 
   pub xor-twice : evaluateBinary bi.Xor t x x ≡ some 0
   unfolding evaluateBinary
-  xor-twice = ap (λ (n : ℕ). some (reduced t n)) (xor-self x) ∙ ap some (reduced-zero t)
+  xor-twice = kept t 0 (size-pos t) (bitXor x x) (xor-self x)
 
   pub and-twice : x < size t → evaluateBinary bi.And t x x ≡ some x
   unfolding evaluateBinary
-  and-twice l = ap (λ (n : ℕ). some (reduced t n)) (and-self x) ∙ ap some (reduced-same t x l)
+  and-twice l = kept t x l (bitAnd x x) (and-self x)
 
   pub or-twice : x < size t → evaluateBinary bi.Or t x x ≡ some x
   unfolding evaluateBinary
-  or-twice l = ap (λ (n : ℕ). some (reduced t n)) (or-self x) ∙ ap some (reduced-same t x l)
+  or-twice l = kept t x l (bitOr x x) (or-self x)
 
 module _ (x : ℕ) where
   pub equal-twice : evaluateBinary bi.Equal ty.Bool x x ≡ some 1
@@ -273,84 +273,49 @@ minus-zero n = omega arith
 times-zero : (n : ℕ) → n * 0 ≡ 0
 times-zero n = omega arith
 
-zero-signed : signed 128 0 ≡ pos 0
-zero-signed = signed-low 128 0 (pow-pos 127)
-
 shr-one : (z : ℤ) → shrZ z 1 ≡ z
 shr-one (pos n) = ap pos (div-one n)
 shr-one (negsuc n) = ap negsuc (div-one n)
 
-made : (t : ScalarType) (n : ℕ) → n ≡ 0 → _≡_ {A = Option ℕ} (some (reduced t n)) (some 0)
-made t n e = ap (λ (n : ℕ). some (reduced t n)) e ∙ ap some (reduced-zero t)
-
 module _ (t : ScalarType) (x : ℕ) where
   pub and-zero : evaluateBinary bi.And t x 0 ≡ some 0
   unfolding evaluateBinary
-  and-zero = made t (bitAnd x 0) (and-zero-r x)
+  and-zero = kept t 0 (size-pos t) (bitAnd x 0) (and-zero-r x)
 
   pub mul-zero : evaluateBinary bi.Mul t x 0 ≡ some 0
   unfolding evaluateBinary
-  mul-zero = go t
-    where
-      product : x * 0 % 2 ^ 128 ≡ 0
-      product = ap (λ (n : ℕ). n % 2 ^ 128) (times-zero x) ∙ zero-mod (2 ^ 128)
-
-      go : (t : ScalarType) → evaluateBinary bi.Mul t x 0 ≡ some 0
-      go ty.Bool = ap some product
-      go (ty.Bits w) = made (ty.Bits w) (x * 0 % 2 ^ 128) product
-      go ty.Integer =
-          ap (mapped (reduced ty.Integer))
-          (answer (signed 128 x *ℤ signed 128 0) 0 (pow-pos 128)
-          (ap (λ (z : ℤ). signed 128 x *ℤ z) zero-signed ∙ *ℤ-zero (signed 128 x) ∙ sym zero-signed))
+  mul-zero =
+      kept-sum t 0 (size-pos t) (pow-pos 128) _ _ (ap (λ (n : ℕ). n % 2 ^ 128) (times-zero x) ∙ zero-mod (2 ^ 128))
+      (ap (λ (z : ℤ). signed 128 x *ℤ z) zero-signed ∙ *ℤ-zero (signed 128 x) ∙ sym zero-signed)
 
   module _ (l : x < size t) where
-    kept : (n : ℕ) → n ≡ x → _≡_ {A = Option ℕ} (some (reduced t n)) (some x)
-    kept n e = ap (λ (n : ℕ). some (reduced t n)) e ∙ ap some (reduced-same t x l)
-
     pub or-zero : evaluateBinary bi.Or t x 0 ≡ some x
     unfolding evaluateBinary
-    or-zero = kept (bitOr x 0) (or-zero-r x)
+    or-zero = kept t x l (bitOr x 0) (or-zero-r x)
 
     pub xor-zero : evaluateBinary bi.Xor t x 0 ≡ some x
     unfolding evaluateBinary
-    xor-zero = kept (bitXor x 0) (xor-zero-r x)
+    xor-zero = kept t x l (bitXor x 0) (xor-zero-r x)
 
     module _ (m : x < 2 ^ 128) where
       pub shift-left-zero : evaluateBinary bi.ShiftLeft t x 0 ≡ some x
       unfolding evaluateBinary
-      shift-left-zero = kept (shiftedLeft x 0) (shift-left x 0 ∙ ap (λ (n : ℕ). n % 2 ^ 128) (mul-one x) ∙ mod-eq-of-lt m)
+      shift-left-zero = kept t x l (shiftedLeft x 0) (shift-left x 0 ∙ ap (λ (n : ℕ). n % 2 ^ 128) (mul-one x) ∙ mod-eq-of-lt m)
 
       pub shift-right-zero : evaluateBinary bi.ShiftRight t x 0 ≡ some x
       unfolding evaluateBinary
-      shift-right-zero = kept (shiftedRight x 0) (shift-right x 0 m ∙ div-one x)
+      shift-right-zero = kept t x l (shiftedRight x 0) (shift-right x 0 m ∙ div-one x)
 
-pub add-zero : (t : ScalarType) (x : ℕ) → x < size t → x < 2 ^ 128 → evaluateBinary bi.Add t x 0 ≡ some x
-unfolding evaluateBinary
-add-zero t x l m = go t l
-  where
-    sum : (x + 0) % 2 ^ 128 ≡ x
-    sum = ap (λ (n : ℕ). n % 2 ^ 128) (plus-zero x) ∙ mod-eq-of-lt m
+      pub add-zero : evaluateBinary bi.Add t x 0 ≡ some x
+      unfolding evaluateBinary
+      add-zero =
+          kept-sum t x l m _ _ (ap (λ (n : ℕ). n % 2 ^ 128) (plus-zero x) ∙ mod-eq-of-lt m)
+          (ap (λ (z : ℤ). signed 128 x +ℤ z) zero-signed ∙ +ℤ-idr (signed 128 x))
 
-    go : (t : ScalarType) → x < size t → evaluateBinary bi.Add t x 0 ≡ some x
-    go ty.Bool l = ap some sum
-    go (ty.Bits w) l = kept (ty.Bits w) x l ((x + 0) % 2 ^ 128) sum
-    go ty.Integer l =
-        ap (mapped (reduced ty.Integer))
-        (answer (signed 128 x +ℤ signed 128 0) x m (ap (λ (z : ℤ). signed 128 x +ℤ z) zero-signed ∙ +ℤ-idr (signed 128 x)))
-
-pub sub-zero : (t : ScalarType) (x : ℕ) → x < size t → x < 2 ^ 128 → evaluateBinary bi.Sub t x 0 ≡ some x
-unfolding evaluateBinary
-sub-zero t x l m = go t l
-  where
-    difference : (x + (2 ^ 128 - 0)) % 2 ^ 128 ≡ x
-    difference = sub-exact x 0 (2 ^ 128) m zero-le ∙ minus-zero x
-
-    go : (t : ScalarType) → x < size t → evaluateBinary bi.Sub t x 0 ≡ some x
-    go ty.Bool l = ap some difference
-    go (ty.Bits w) l = kept (ty.Bits w) x l ((x + (2 ^ 128 - 0)) % 2 ^ 128) difference
-    go ty.Integer l =
-        ap (mapped (reduced ty.Integer))
-        (answer (signed 128 x -ℤ signed 128 0) x m (ap (λ (z : ℤ). signed 128 x -ℤ z) zero-signed ∙ +ℤ-idr (signed 128 x)))
+      pub sub-zero : evaluateBinary bi.Sub t x 0 ≡ some x
+      unfolding evaluateBinary
+      sub-zero =
+          kept-sum t x l m _ _ (sub-exact x 0 (2 ^ 128) m zero-le ∙ minus-zero x) (ap (λ (z : ℤ). signed 128 x -ℤ z) zero-signed ∙ +ℤ-idr (signed 128 x))
 
 arithmetic-none : (x w : ℕ) → w ≤ 128 → x < 2 ^ w → arithmeticShift w x 0 % 2 ^ w ≡ x
 arithmetic-none x zero h l = omega arith
@@ -398,6 +363,12 @@ and-true x l = ap some (ones-and 1 x l)
 pub or-true : (x : ℕ) → x < 2 → evaluateBinary bi.Or ty.Bool x 1 ≡ some 1
 unfolding evaluateBinary
 or-true x l = ap some (ones-or 1 x l)
+
+-- And with a constant of Bits(w), as a node's value
+pub mask-value : (w x m : ℕ) → m < 2 ^ w → binaryMeans (ty.Bits w) bi.And (some x) (some (reduced (ty.Bits w) m)) ≡ some (bitAnd x m)
+unfolding evaluateBinary
+mask-value w x m l =
+    (λ k. binaryMeans (ty.Bits w) bi.And (some x) (some (mod-eq-of-lt l k))) ∙ valued-same (ty.Bits w) (bitAnd x m) (lt-of-le-of-lt (and-le-r x m) l)
 
 -- ---- masks of masks
 

@@ -4,17 +4,19 @@ use mathlib.Core.Bool.{Bool, true, false, cond}
 use mathlib.Core.List.{List}
 use mathlib.Core.Option.{Option, none, some}
 use Prim.Native.Nat.{ℕ, zero, suc, _+_, _-_, _*_, _/_, _%_, _^_, _≤_, _<_}
-use native.Mathlib.Nat.{mod-lt, mod-mod, mod-eq-of-lt, div-one, lt-of-le-of-lt}
+use native.Mathlib.Nat.{mod-mod, mod-eq-of-lt, div-one}
 use native.Mathlib.Omega.{arith}
 use borrow.Author.Tests.{eqb-true, eqb-false, eq-eqb, lt-ltb}
-use lib.Bits.{bitAnd, bitOr, and-le-r, or-shifted}
+use lib.Bits.{bitAnd, bitOr, or-shifted}
 use lib.Dec.{eqb, ltb, leb}
-use lib.Pow.{pow-pos, shl-exact}
+use lib.Pow.{shl-exact}
 use Rattle.word.specs.Value.{only}
 use Rattle.range.specs.Interval.{both, one, typeInterval}
 use Rattle.range.specs.declared.ScalarType.{ScalarType}
 use Rattle.range.specs.declared.ScalarType.the-variants as ty
 use Rattle.range.proofs.Sound.{tests}
+use Rattle.range.proofs.Answers.{none-some, some-is, provided-is}
+use Rattle.range.proofs.Valid.{type-valid}
 use Rattle.evaluate.specs.Evaluate.{evaluateBinary}
 use Rattle.evaluate.specs.declared.Unary.{Unary}
 use Rattle.evaluate.specs.declared.Unary.the-variants as un
@@ -25,23 +27,24 @@ use Rattle.graph.specs.Node as node
 use Rattle.graph.specs.Node.{Op, typeAt, operationAt}
 use Rattle.graph.specs.Insert.{start, literal}
 use Rattle.fold.specs.Shape.{given, sameType}
-use Rattle.fold.specs.Bitfield.{Bit, known, source, BitStep, here, from, flipped, hasBit, above, maskedBit, unaryBit, bitOf, bitStep, turned, reached, DEPTH, bitAt, Field, noBits, power, sameBase, withBit, concatBit, fieldFrom, lowFits, bitfield}
+use Rattle.bitfield.specs.Bitfield.{Bit, known, source, BitStep, here, from, flipped, hasBit, above, maskedBit, unaryBit, bitOf, bitStep, turned, reached, DEPTH, bitAt, Field, noBits, sameBase, withBit, concatBit, fieldFrom, lowFits, bitfield}
 use Rattle.plan.specs.Plan as plan
 use Rattle.plan.specs.Plan.{Plan, First, does, tries, concatRest}
-use Rattle.plan.specs.Slice.{concatPlan, joined, Cut, cutOf, adjacent, fieldPlan, concatField, concatOpen, joinedPlan, concatFirst}
+use Rattle.plan_slice.specs.Slice.{concatPlan, joined, Cut, cutOf, adjacent, fieldPlan, concatField, concatOpen, joinedPlan, concatFirst}
 use Rattle.build.specs.Rest.{restPlan}
 use Rattle.build.specs.Build.{concat}
 use Rattle.native.specs.Typing.{concatTyped}
 use Rattle.bits.proofs.Slices.{slice-high, slice-low, slice-join}
 use Rattle.meaning.specs.Value.{Env, valued, andThen, binaryMeans, sliceMeans, concatMeans, value}
-use Rattle.meaning.proofs.Values.{some-is, typed-is, typed-of, then-is, means-small}
+use Rattle.meaning.proofs.Values.{typed-is, then-is, means-small}
+use Rattle.meaning.proofs.Compared.{mask-value}
+use Rattle.meaning.proofs.Answers.{given-is, by-test, by-given}
 use Rattle.meaning.proofs.Invariant.{Inv, ext-here, ext-type, ext-value, Storable, Kept}
 use Rattle.meaning.proofs.Tree.{Callable}
-use Rattle.meaning.proofs.Constants.{valued-same, stored-low, stored-high}
-use Rattle.meaning.proofs.Plans.{Number, Claim, FirstClaim}
-use Rattle.meaning.proofs.Views.{by-test}
+use Rattle.meaning.proofs.Constants.{stored-low, stored-high, low-valued}
+use Rattle.meaning.proofs.Plans.{Claim, FirstClaim, bits-number}
 use Rattle.meaning.proofs.Ranges.{type-within, type-ends}
-use Rattle.meaning.proofs.Field.{none-has, some-has, provided-is, means-at, below-at, literal-value, sides, Gathers, FieldSays, high-small, low-small, field-sound}
+use Rattle.meaning.proofs.Field.{means-at, below-at, literal-value, sides, Gathers, FieldSays, high-small, low-small, field-sound}
 
 -- ---- a new node
 
@@ -62,6 +65,9 @@ concat-storable ρ g high low v w c =
       };
       width = wide;
       below = omega arith;
+      offset = omega arith;
+      parameter = narrow;
+      valid = type-valid (ty.Bits w);
       typed = (w, refl, c .4);
       refined = tt;
       ends = type-ends (ty.Bits w);
@@ -76,14 +82,14 @@ concat-plan-claim ρ g high low v w c = (refl, concat-storable ρ g high low v w
 -- ---- an operation that is a slice
 
 cut-is : (o : Op) (c : Cut) → cutOf o ≡ some c → (w : ℕ) × (o ≡ node.slice (c .value) (c .offset) w)
-cut-is (node.constant n) c e = absurd (none-has e)
-cut-is (node.input n) c e = absurd (none-has e)
-cut-is (node.refine n) c e = absurd (none-has e)
-cut-is (node.effect n) c e = absurd (none-has e)
-cut-is (node.slice n o w) c e = (w, λ k. node.slice (some-has e k .value) (some-has e k .offset) w)
-cut-is (node.concat n m w) c e = absurd (none-has e)
-cut-is (node.unary u n) c e = absurd (none-has e)
-cut-is (node.binary b n m) c e = absurd (none-has e)
+cut-is (node.constant n) c e = absurd (none-some e)
+cut-is (node.input n) c e = absurd (none-some e)
+cut-is (node.refine n) c e = absurd (none-some e)
+cut-is (node.effect n) c e = absurd (none-some e)
+cut-is (node.slice n o w) c e = (w, λ k. node.slice (some-is e k .value) (some-is e k .offset) w)
+cut-is (node.concat n m w) c e = absurd (none-some e)
+cut-is (node.unary u n) c e = absurd (none-some e)
+cut-is (node.binary b n m) c e = absurd (none-some e)
 
 -- ---- the node that bits come from is there
 
@@ -99,14 +105,6 @@ StepHere g (flipped p j) = p < countOf g
 abbrev BaseHere : List ℕ → Option ℕ → Type 0
 BaseHere g none = Unit {0}
 BaseHere g (some m) = m < countOf g
-
-given-is : {A B : Type 0} (o : Option A) (f : A → Option B) (r : B) → given o f none ≡ some r → (a : A) × (o ≡ some a) × (f a ≡ some r)
-given-is none f r e = absurd (none-has e)
-given-is (some a) f r e = (a, refl, e)
-
-by-given : {A B : Type 0} (P : B → Type 0) (o : Option A) {f : A → B} {b : B} → ((a : A) → o ≡ some a → P (f a)) → (o ≡ none → P b) → P (given o f b)
-by-given P none h k = k refl
-by-given P (some a) h k = h a refl
 
 module _ (g : List ℕ) (n i : ℕ) (l : n < countOf g) where
   masked-here : (o : Binary) (set : Bool) (p : ℕ) → p < countOf g → StepHere g (maskedBit o n set p i)
@@ -156,35 +154,32 @@ module _ {ρ : Env} {g : List ℕ} (inv : Inv ρ g) where
       by-test (StepHere g) (one (leb 128 i) (above (typeAt g n) i)) (λ e. tt) (λ e. op-here g n i l (operationAt g n) (inv .below n l))
 
   turned-here : (o : Option Bit) (b : Bit) → turned o ≡ some b → Here g b
-  turned-here none b e = absurd (none-has e)
-  turned-here (some (known k)) b e = subst (Here g) (some-has e) tt
-  turned-here (some (source m j)) b e = absurd (none-has e)
+  turned-here none b e = absurd (none-some e)
+  turned-here (some (known k)) b e = subst (Here g) (some-is e) tt
+  turned-here (some (source m j)) b e = absurd (none-some e)
 
   reached-here : (s : BitStep) (r : ℕ → ℕ → Option Bit) → StepHere g s → ((n j : ℕ) → n < countOf g → (b : Bit) → r n j ≡ some b → Here g b)
       → (b : Bit) → reached s r ≡ some b → Here g b
-  reached-here (here k) r h ih b e = subst (Here g) (some-has e) h
+  reached-here (here k) r h ih b e = subst (Here g) (some-is e) h
   reached-here (from p j) r h ih b e = ih p j h b e
   reached-here (flipped p j) r h ih b e = turned-here (r p j) b e
 
   bit-here : (k n i : ℕ) → n < countOf g → (b : Bit) → bitAt g k n i ≡ some b → Here g b
   unfolding bitAt
-  bit-here zero n i l b e = absurd (none-has e)
+  bit-here zero n i l b e = absurd (none-some e)
   bit-here (suc k) n i l b e = reached-here (bitStep g n i) (bitAt g k) (step-here n i l) (λ m j. bit-here k m j) b e
 
   with-here : (f r : Field) (i : ℕ) (b : Bit) → BaseHere g (f .base) → Here g b → withBit f i b ≡ some r → BaseHere g (r .base)
-  with-here f r i (known k) h q e = subst (λ (d : Field). BaseHere g (d .base)) (some-has e) h
-  with-here f r i (source m j) h q e = go (both (eqb j i) (sameBase (f .base) m)) e
-    where
-      go : (t : Bool) → only t (record { base = some m; keep = bitOr (f .keep) (power i); literal = f .literal }) ≡ some r → BaseHere g (r .base)
-      go true e = subst (λ (d : Field). BaseHere g (d .base)) (some-has e) q
-      go false e = absurd (none-has e)
+  with-here f r i (known k) h q e = subst (λ (d : Field). BaseHere g (d .base)) (some-is e) h
+  with-here f r i (source m j) h q e =
+      subst (λ (d : Field). BaseHere g (d .base)) (some-is (provided-is (both (eqb j i) (sameBase (f .base) m)) _ e .1)) q
 
   module _ (high low v : ℕ) (lh : high < countOf g) (ll : low < countOf g) where
     field-here : (k i : ℕ) (f r : Field) → BaseHere g (f .base) → fieldFrom g high low v i k f ≡ some r → BaseHere g (r .base)
-    field-here zero i f r h e = subst (λ (d : Field). BaseHere g (d .base)) (some-has e) h
+    field-here zero i f r h e = subst (λ (d : Field). BaseHere g (d .base)) (some-is e) h
     field-here (suc k) i f r h e =
-        let p = given-is (concatBit g high low v i) _ r e in
-        let q = given-is (withBit f i (p .0)) _ r (p .2) in
+        let p = given-is (concatBit g high low v i) _ e in
+        let q = given-is (withBit f i (p .0)) _ (p .2) in
         field-here k (suc i) (q .0) r (with-here f (q .0) i (p .0) h (at (p .0) (p .1)) (q .1)) (q .2)
       where
         at : (b : Bit) → concatBit g high low v i ≡ some b → Here g b
@@ -193,7 +188,7 @@ module _ {ρ : Env} {g : List ℕ} (inv : Inv ρ g) where
 
     base-here : (w : ℕ) (f : Field) → bitfield g high low v w ≡ some f → BaseHere g (f .base)
     unfolding bitfield
-    base-here w f e = field-here w 0 noBits f tt (provided-is (lowFits g low v) (fieldFrom g high low v 0 w noBits) e)
+    base-here w f e = field-here w 0 noBits f tt (provided-is (lowFits g low v) (fieldFrom g high low v 0 w noBits) e .1)
 
 -- ---- And with a mask, then Or with a literal
 
@@ -201,11 +196,7 @@ masked-means : (w u keep lit z : ℕ) → keep < 2 ^ w → lit < 2 ^ w → z ≡
     → binaryMeans (ty.Bits w) bi.Or (binaryMeans (ty.Bits w) bi.And (some u) (some (keep % 2 ^ w))) (some (lit % 2 ^ w)) ≡ some z
 unfolding evaluateBinary
 masked-means w u keep lit z lk ll e =
-    let kept : binaryMeans (ty.Bits w) bi.And (some u) (some (keep % 2 ^ w)) ≡ some (bitAnd u keep) =
-    (λ k. binaryMeans (ty.Bits w) bi.And (some u) (some (mod-eq-of-lt lk k)))
-    ∙ valued-same (ty.Bits w) (bitAnd u keep) (lt-of-le-of-lt (and-le-r u keep) lk) in
-    (λ k. binaryMeans (ty.Bits w) bi.Or (kept k) (some (mod-eq-of-lt ll k)))
-    ∙ typed-of (ty.Bits w) (bitOr (bitAnd u keep) lit % 2 ^ w) (mod-lt (bitOr (bitAnd u keep) lit) (pow-pos w)) ∙ ap some (sym e)
+    (λ k. binaryMeans (ty.Bits w) bi.Or (mask-value w u keep lk k) (some (mod-eq-of-lt ll k))) ∙ low-valued w (bitOr (bitAnd u keep) lit) ∙ ap some (sym e)
 
 -- ---- the parts of a value
 
@@ -240,13 +231,10 @@ module _ {ρ : Env} {g : List ℕ} (i : Inv ρ g) (high low v w : ℕ) (c : Call
         means = typed-is (ty.Bits w) ((p .0 * 2 ^ v + q .0) % 2 ^ w) z (q .2) .0;
       }
 
-  number : (n : ℕ) → Number (ty.Bits w) n
-  number n = record { width = c .1; small = mod-lt n (pow-pos w) }
-
   -- a constant that every sum of parts is
   constant-claim : (n : ℕ) → ((z : ℕ) (j : Joins ρ g high low v w z) → j .x * 2 ^ v + j .y ≡ n)
       → Claims (plan.constant (ty.Bits w) n)
-  constant-claim n k = (refl, number n, λ z e. let j = joins z e in ap some (sym (j .means ∙ ap (λ (m : ℕ). m % 2 ^ w) (k z j))))
+  constant-claim n k = (refl, bits-number (c .1) n, λ z e. let j = joins z e in ap some (sym (j .means ∙ ap (λ (m : ℕ). m % 2 ^ w) (k z j))))
 
   -- a slice of a node that holds both parts
   slice-claim : (n o : ℕ) → n < countOf g
@@ -258,7 +246,7 @@ module _ {ρ : Env} {g : List ℕ} (i : Inv ρ g) (high low v w : ℕ) (c : Call
     λ z e.
         let j = joins z e in
         let s = k z j in
-        ap (sliceMeans (ty.Bits w) o) (s .1) ∙ typed-of (ty.Bits w) (s .0 / 2 ^ o % 2 ^ w) (mod-lt (s .0 / 2 ^ o) (pow-pos w))
+        ap (sliceMeans (ty.Bits w) o) (s .1) ∙ low-valued w (s .0 / 2 ^ o)
         ∙ ap some (sym (j .means ∙ s .2)),
   )
 
@@ -358,8 +346,8 @@ module _ {ρ : Env} {g : List ℕ} (i : Inv ρ g) (high low v w : ℕ) (c : Call
   based-claim f e b eb t =
       let own : eqb w w ≡ true = eq-eqb w w refl in (
         (
-          number (f .keep),
-          number (f .literal),
+          bits-number (c .1) (f .keep),
+          bits-number (c .1) (f .literal),
           subst (BaseHere g) eb (base-here i high low v (c .2) (c .3) w f e),
           (λ k. both (t k) (own k)),
           refl,

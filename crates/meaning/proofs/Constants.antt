@@ -4,33 +4,29 @@ use mathlib.Core.Bool.{Bool, true, false, cond, false≢true}
 use mathlib.Core.List.{List}
 use mathlib.Core.Logic.{⊎-elim}
 use mathlib.Core.Option.{Option, none, some}
-use Prim.Native.Nat.{ℕ, _^_, _≤_, _<_}
-use native.Mathlib.Nat.{mod-eq-of-lt, lt-of-lt-of-le, le-refl}
+use Prim.Native.Nat.{ℕ, _%_, _^_, _≤_, _<_}
+use native.Mathlib.Nat.{mod-lt, mod-eq-of-lt, lt-of-lt-of-le, le-refl}
 use native.Mathlib.Omega.{arith}
 use lib.Dec.{lit<}
 use lib.IntN.{ℤ, pos}
 use lib.Pow.{pow-mono, pow-pos}
-use lib.Signed.{mag}
+use lib.Signed.{mag, ≤ℤ-refl}
 use Rattle.word.specs.Value.{isNeg, signed}
 use Rattle.word.proofs.Integer.{lt-or-ge, signed-low, signed-high, signed-mag}
-use Rattle.range.specs.Interval.{Interval, _∈_, point}
+use Rattle.range.specs.Interval.{Interval, _∈_, point, insideBits, insideType}
 use Rattle.range.specs.declared.ScalarType.{ScalarType}
 use Rattle.range.specs.declared.ScalarType.the-variants as ty
 use Rattle.range.proofs.Sound.{point-in}
+use Rattle.range.proofs.Answers.{none-some, some-is}
+use Rattle.range.proofs.Valid.{Valid, point-inside}
 use Rattle.evaluate.specs.Evaluate.{reduced}
 use Rattle.evaluate.specs.Operator.{typeWidth}
 use Rattle.graph.specs.Node as node
 use Rattle.graph.specs.Insert.{constantInterval}
 use Rattle.graph.proofs.Codes.{lowEnd, highEnd}
 use Rattle.meaning.specs.Value.{Env, size, integerOf, ofType, valued, operationMeans, value}
-use Rattle.meaning.proofs.Values.{some-is, typed-of}
+use Rattle.meaning.proofs.Values.{typed-of}
 use Rattle.meaning.proofs.Invariant.{Ends, Within, Storable}
-
-pub no-interval : {a : Interval} → none ≡ some a → ⊥
-no-interval e = let z : _≡_ {A = ℕ} 0 1 = cc in omega arith
-
-pub the : {a b : Interval} → some a ≡ some b → a ≡ b
-the e = cc
 
 -- ---- sizes
 
@@ -38,6 +34,11 @@ pub size-le : (t : ScalarType) → typeWidth t ≤ 128 → size t ≤ 2 ^ 128
 size-le ty.Bool l = pow-mono {i = 1} {j = 128} (omega arith)
 size-le (ty.Bits w) l = pow-mono l
 size-le ty.Integer l = le-refl (2 ^ 128)
+
+pub size-pos : (t : ScalarType) → 0 < size t
+size-pos ty.Bool = omega arith
+size-pos (ty.Bits w) = pow-pos w
+size-pos ty.Integer = pow-pos 128
 
 pub pattern : (t : ScalarType) (c : ℕ) → typeWidth t ≤ 128 → c < size t → c < 2 ^ 128
 pattern t c l h = lt-of-lt-of-le h (size-le t l)
@@ -50,6 +51,10 @@ reduced-same ty.Integer c h = refl
 
 pub valued-same : (t : ScalarType) (c : ℕ) → c < size t → valued t c ≡ some c
 valued-same t c h = ap (λ (n : ℕ). ofType t n) (reduced-same t c h) ∙ typed-of t c h
+
+-- a value of Bits(w) by its low bits
+pub low-valued : (w c : ℕ) → valued (ty.Bits w) c ≡ some (c % 2 ^ w)
+low-valued w c = typed-of (ty.Bits w) (c % 2 ^ w) (mod-lt c (pow-pos w))
 
 -- ---- ranges
 
@@ -71,7 +76,7 @@ module _ (t : ScalarType) (c : ℕ) (l : typeWidth t ≤ 128) (h : c < size t) w
       here q = let p : point (signed 128 c) ≡ a = cc in subst Ends p (record { low = small; high = small })
 
       maybe : (b : Bool) → cond b none (some (point (signed 128 c))) ≡ some a → Ends a
-      maybe true q = absurd (no-interval q)
+      maybe true q = absurd (none-some q)
       maybe false q = here q
 
       by : (s : ScalarType) → constantInterval s c ≡ some a → Ends a
@@ -83,16 +88,36 @@ module _ (t : ScalarType) (c : ℕ) (l : typeWidth t ≤ 128) (h : c < size t) w
   constant-within a e = by t refl e
     where
       here : (z : ℤ) → z ≡ signed 128 c → some (point (signed 128 c)) ≡ some a → z ∈ a
-      here z p q = let r : point z ≡ a = ap point p ∙ the q in subst (λ (b : Interval). z ∈ b) r (point-in z)
+      here z p q = let r : point z ≡ a = ap point p ∙ some-is q in subst (λ (b : Interval). z ∈ b) r (point-in z)
 
       maybe : (b : Bool) → isNeg (signed 128 c) ≡ b → cond b none (some (point (signed 128 c))) ≡ some a → (pos c) ∈ a
-      maybe true p q = absurd (no-interval q)
+      maybe true p q = absurd (none-some q)
       maybe false p q = here (pos c) (sym (signed-parts c (pattern t c l h) p)) q
 
       by : (s : ScalarType) → t ≡ s → constantInterval s c ≡ some a → (integerOf s c) ∈ a
       by ty.Bool p q = here (pos c) (sym (signed-low 128 c (lt-of-lt-of-le (subst (λ (s : ScalarType). c < size s) p h) (pow-mono {i = 1} {j = 127} (omega arith))))) q
       by (ty.Bits w) p q = maybe (isNeg (signed 128 c)) refl q
       by ty.Integer p q = here (signed 128 c) refl q
+
+  pub constant-valid : (a : Interval) → constantInterval t c ≡ some a → Valid t a
+  constant-valid a e = by t refl e
+    where
+      here : (s : ScalarType) → insideType s (point (signed 128 c)) ≡ true → some (point (signed 128 c)) ≡ some a → Valid s a
+      here s i q = subst (Valid s) (some-is q) (record { full = ≤ℤ-refl (signed 128 c); inside = i })
+
+      bits : (w : ℕ) → c < 2 ^ w → signed 128 c ≡ pos c → insideBits w (point (signed 128 c)) ≡ true
+      bits w k p = ap (λ (z : ℤ). insideBits w (point z)) p ∙ point-inside w c k
+
+      maybe : (w : ℕ) → c < 2 ^ w → (b : Bool) → isNeg (signed 128 c) ≡ b → cond b none (some (point (signed 128 c))) ≡ some a → Valid (ty.Bits w) a
+      maybe w k true p q = absurd (none-some q)
+      maybe w k false p q = here (ty.Bits w) (bits w k (signed-parts c (pattern t c l h) p)) q
+
+      by : (s : ScalarType) → t ≡ s → constantInterval s c ≡ some a → Valid s a
+      by ty.Bool p q =
+          let k : c < 2 = subst (λ (s : ScalarType). c < size s) p h in
+          here ty.Bool (bits 1 k (signed-low 128 c (lt-of-lt-of-le k (pow-mono {i = 1} {j = 127} (omega arith))))) q
+      by (ty.Bits w) p q = maybe w (subst (λ (s : ScalarType). c < size s) p h) (isNeg (signed 128 c)) refl q
+      by ty.Integer p q = here ty.Integer refl q
 
 -- ---- storing
 
@@ -123,6 +148,9 @@ module _ (ρ : Env) (g : List ℕ) (t : ScalarType) (c : ℕ) (l : typeWidth t �
     };
     width = l;
     below = omega arith;
+    offset = omega arith;
+    parameter = omega arith;
+    valid = constant-valid t c l h;
     typed = h;
     refined = tt;
     ends = constant-ends t c l h;

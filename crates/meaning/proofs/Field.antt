@@ -2,6 +2,7 @@
 use mathlib.Core.Path.{_≡_, refl, sym, ap, _∙_, subst}
 use mathlib.Core.Bool.{Bool, true, false, cond, not}
 use mathlib.Core.List.{List}
+use mathlib.Core.Logic.{_⊎_, inl, inr, ⊎-elim}
 use mathlib.Core.Option.{Option, none, some}
 use Prim.Native.Nat.{ℕ, zero, suc, min, max, _+_, _-_, _*_, _/_, _%_, _^_, _≤_, _<_}
 use native.Mathlib.Decide.{decLt}
@@ -11,12 +12,11 @@ use borrow.Author.Tests.{leb-true, leb-false, ltb-true, ltb-false, eqb-true, eqb
 use lib.Bits.{bitAnd, bitOr, bitXor, or-shifted-r, or-zero-r, and-le-r, or-lt, and-mask}
 use lib.Dec.{eqb, ltb, leb}
 use lib.Pow.{pow-pos, pow-lt, not-mod}
-use Rattle.word.specs.Value.{only, provided}
 use Rattle.range.specs.Interval.{both, one}
 use Rattle.range.specs.declared.ScalarType.{ScalarType}
 use Rattle.range.specs.declared.ScalarType.the-variants as ty
 use Rattle.evaluate.specs.Evaluate.{fromBool, evaluateUnary, evaluateBinary}
-use Rattle.evaluate.specs.Operator.{typeWidth, binaryCode}
+use Rattle.evaluate.specs.Operator.{typeWidth}
 use Rattle.evaluate.specs.U128 as u128
 use Rattle.evaluate.specs.declared.Unary.{Unary}
 use Rattle.evaluate.specs.declared.Unary.the-variants as un
@@ -24,18 +24,20 @@ use Rattle.evaluate.specs.declared.Binary.{Binary}
 use Rattle.evaluate.specs.declared.Binary.the-variants as bi
 use Rattle.graph.specs.Layout.{countOf}
 use Rattle.graph.specs.Node as node
-use Rattle.graph.specs.Node.{Op, typeAt, operationAt, binaryOf}
+use Rattle.graph.specs.Node.{Op, typeAt, operationAt}
 use Rattle.graph.specs.Insert.{start, literalOf, literal}
 use Rattle.fold.specs.Shape.{given, sameType, sameBinary, mask, Chain, chained, chainOf, chainAt}
-use Rattle.fold.specs.Bitfield.{Bit, known, source, BitStep, here, from, flipped, hasBit, above, maskedBit, unaryBit, bitOf, bitStep, turned, reached, DEPTH, bitAt, Field, noBits, power, sameBase, withBit, concatBit, fieldFrom, lowFits, bitfield, Mask, Update, updateOf, updateAt, Look, next, end, found, keeps, changed, lookUpdate, lookTyped, lookAt, firstFound, maskedComparison}
+use Rattle.bitfield.specs.Bitfield.{Bit, known, source, BitStep, here, from, flipped, hasBit, above, maskedBit, unaryBit, bitOf, bitStep, turned, reached, DEPTH, bitAt, Field, noBits, power, sameBase, withBit, concatBit, fieldFrom, lowFits, bitfield, Mask, Update, updateOf, updateAt, Look, next, end, found, keeps, changed, lookTyped, lookAt, firstFound, maskedComparison}
 use Rattle.native.specs.Typing.{concatTyped}
 use Rattle.range.proofs.Sound.{tests}
+use Rattle.range.proofs.Answers.{none-some, some-is, provided-is}
 use Rattle.bits.specs.Bit.{bit}
 use Rattle.bits.proofs.Bit.{bit-lt, bit-zero, bit-ext, bit-and, bit-or, bit-xor, bit-big, bit-shr, bit-mod, bit-mod-big, bit-high, bit-low-part}
 use Rattle.bits.proofs.Logic.{field-kept, kept-field}
 use Rattle.meaning.specs.Value.{Env, size, ofType, valued, andThen, binaryMeans, operationMeans, value}
-use Rattle.meaning.proofs.Values.{none-some, some-is, typed-is, typed-of, then-is}
-use Rattle.meaning.proofs.Invariant.{Typed, Inv, inv-step}
+use Rattle.meaning.proofs.Answers.{binary-is, by-test, by-given, given-is}
+use Rattle.meaning.proofs.Values.{typed-is, typed-of, then-is}
+use Rattle.meaning.proofs.Invariant.{storedTyped, Typed, Inv, inv-step}
 use Rattle.meaning.proofs.Constants.{reduced-same}
 use Rattle.meaning.proofs.Views.{same-type, value-small}
 
@@ -55,14 +57,6 @@ StepSays ρ g v i (flipped p j) = (p < countOf g) × (u : ℕ) × (value ρ g p 
 says-same : (ρ : Env) (g : List ℕ) (v u i j : ℕ) (b : Bit) → bit v i ≡ bit u j → Says ρ g u j b → Says ρ g v i b
 says-same ρ g v u i j (known b) e h = e ∙ h
 says-same ρ g v u i j (source m k) e h = (h .0, h .1, h .2, e ∙ h .3)
-
--- ---- answers that are there
-
-pub none-has : {A : Type 0} {a : A} → none ≡ some a → ⊥
-none-has e = let z : _≡_ {A = ℕ} 0 1 = cc in omega arith
-
-pub some-has : {A : Type 0} {a b : A} → some a ≡ some b → a ≡ b
-some-has e = cc
 
 -- ---- bits of numbers
 
@@ -121,6 +115,9 @@ module _ (ρ : Env) (g : List ℕ) (inv : Inv ρ g) where
       go (node.concat i j w) q e = absurd (none-some e)
       go (node.unary u i) q e = absurd (none-some e)
       go (node.binary b i j) q e = absurd (none-some e)
+
+pub literal-below : {ρ : Env} {g : List ℕ} (i : Inv ρ g) (n c : ℕ) (t : ScalarType) → n < countOf g → typeAt g n ≡ t → literal g n ≡ some c → c < size t
+literal-below {ρ} {g} i n c t l q e = subst (λ (s : ScalarType). c < size s) q (value-small i n l c (literal-value ρ g i n c l e))
 
 -- the operands of a binary operation with a value
 pub record Operands (ρ : Env) (g : List ℕ) (t : ScalarType) (o : Binary) (i j v : ℕ) : Type 0 where
@@ -308,22 +305,22 @@ module _ (ρ : Env) (g : List ℕ) (inv : Inv ρ g) where
 
   turned-says : (v u i j : ℕ) (o : Option Bit) → bit v i ≡ 1 - bit u j → ((b : Bit) → o ≡ some b → Says ρ g u j b) → (b : Bit) → turned o ≡ some b
       → Says ρ g v i b
-  turned-says v u i j none f h b e = absurd (none-has e)
-  turned-says v u i j (some (known true)) f h b e = subst (λ (c : Bit). Says ρ g v i c) (some-has e) (omega (arith, h (known true) refl))
-  turned-says v u i j (some (known false)) f h b e = subst (λ (c : Bit). Says ρ g v i c) (some-has e) (omega (arith, h (known false) refl))
-  turned-says v u i j (some (source m k)) f h b e = absurd (none-has e)
+  turned-says v u i j none f h b e = absurd (none-some e)
+  turned-says v u i j (some (known true)) f h b e = subst (λ (c : Bit). Says ρ g v i c) (some-is e) (omega (arith, h (known true) refl))
+  turned-says v u i j (some (known false)) f h b e = subst (λ (c : Bit). Says ρ g v i c) (some-is e) (omega (arith, h (known false) refl))
+  turned-says v u i j (some (source m k)) f h b e = absurd (none-some e)
 
   reached-says : (v i : ℕ) (s : BitStep) (r : ℕ → ℕ → Option Bit) → StepSays ρ g v i s
       → ((n j u : ℕ) → n < countOf g → value ρ g n ≡ some u → (b : Bit) → r n j ≡ some b → Says ρ g u j b)
       → (b : Bit) → reached s r ≡ some b → Says ρ g v i b
-  reached-says v i (here c) r h ih b e = subst (λ (c : Bit). Says ρ g v i c) (some-has e) h
+  reached-says v i (here c) r h ih b e = subst (λ (c : Bit). Says ρ g v i c) (some-is e) h
   reached-says v i (from p j) r h ih b e = says-same ρ g v (h .1) i j b (h .3) (ih p j (h .1) (h .0) (h .2) b e)
   reached-says v i (flipped p j) r h ih b e = turned-says v (h .1) i j (r p j) (h .3) (λ c q. ih p j (h .1) (h .0) (h .2) c q) b e
 
   -- what the walk tells is so
   pub bit-sound : (k n i v : ℕ) → n < countOf g → value ρ g n ≡ some v → (b : Bit) → bitAt g k n i ≡ some b → Says ρ g v i b
   unfolding bitAt
-  bit-sound zero n i v l ev b e = absurd (none-has e)
+  bit-sound zero n i v l ev b e = absurd (none-some e)
   bit-sound (suc k) n i v l ev b e = reached-says v i (bitStep g n i) (bitAt g k) (step-says n i v l ev) (λ m j u. bit-sound k m j u) b e
 
 -- ---- the bits of a concat
@@ -384,7 +381,7 @@ module _ (ρ : Env) (g : List ℕ) (x i : ℕ) where
       record {
         base = u;
         origin = (lm, eu);
-        bare = λ e. absurd (none-has (sym e));
+        bare = λ e. absurd (none-some (sym e));
         small = (omega (arith, two-pow-succ i), omega (arith, two-pow-succ i));
         places = λ j l.
             one-more i j l (λ k. bit x k ≡ max (min (bit u k) (bit (1 * 2 ^ i + keep) k)) (bit lit k))
@@ -400,7 +397,7 @@ module _ (ρ : Env) (g : List ℕ) (x i : ℕ) where
       record {
         base = u;
         origin = (lm, eu);
-        bare = λ e. absurd (none-has (sym e));
+        bare = λ e. absurd (none-some (sym e));
         small = (omega (arith, two-pow-succ i), omega (arith, two-pow-succ i));
         places = λ j l.
             one-more i j l (λ k. bit x k ≡ max (min (bit u k) (bit (1 * 2 ^ i + keep) k)) (bit lit k))
@@ -442,45 +439,29 @@ module _ (ρ : Env) (g : List ℕ) (x i : ℕ) where
   with-bit : (f r : Field) (b : Bit) → i < 128 → Parts ρ g x i (f .base) (f .keep) (f .literal) → Says ρ g x i b → withBit f i b ≡ some r
       → Parts ρ g x (suc i) (r .base) (r .keep) (r .literal)
   with-bit f r (known true) l h t e =
-      subst (λ (k : Field). Parts ρ g x (suc i) (k .base) (k .keep) (k .literal)) (some-has e)
+      subst (λ (k : Field). Parts ρ g x (suc i) (k .base) (k .keep) (k .literal)) (some-is e)
       (rw (with-power (f .literal) i l (h .small .1)) (set-place (f .base) (f .keep) (f .literal) h t))
   with-bit f r (known false) l h t e =
-      subst (λ (k : Field). Parts ρ g x (suc i) (k .base) (k .keep) (k .literal)) (some-has e) (clear-place (f .base) (f .keep) (f .literal) h t)
-  with-bit f r (source m j) l h t e = go (eqb j i) refl (sameBase (f .base) m) refl e
-    where
-      go : (a : Bool) → eqb j i ≡ a → (b : Bool) → sameBase (f .base) m ≡ b
-          → only (both a b) (record { base = some m; keep = bitOr (f .keep) (power i); literal = f .literal }) ≡ some r
-          → Parts ρ g x (suc i) (r .base) (r .keep) (r .literal)
-      go false p b q e = absurd (none-has e)
-      go true p false q e = absurd (none-has e)
-      go true p true q e =
-          subst (λ (k : Field). Parts ρ g x (suc i) (k .base) (k .keep) (k .literal)) (some-has e)
-          (rw (with-power (f .keep) i l (h .small .0))
-          (kept-place m (t .1) (f .keep) (f .literal) (f .base) h (t .0) (t .2) (t .3 ∙ ap (bit (t .1)) (eqb-true j i p)) q))
+      subst (λ (k : Field). Parts ρ g x (suc i) (k .base) (k .keep) (k .literal)) (some-is e) (clear-place (f .base) (f .keep) (f .literal) h t)
+  with-bit f r (source m j) l h t e =
+      let p = provided-is (both (eqb j i) (sameBase (f .base) m)) _ e in
+      let q = tests (eqb j i) (sameBase (f .base) m) (p .0) in
+      subst (λ (k : Field). Parts ρ g x (suc i) (k .base) (k .keep) (k .literal)) (some-is (p .1))
+      (rw (with-power (f .keep) i l (h .small .0))
+      (kept-place m (t .1) (f .keep) (f .literal) (f .base) h (t .0) (t .2) (t .3 ∙ ap (bit (t .1)) (eqb-true j i (q .0))) (q .1)))
 
 field-from : (ρ : Env) (g : List ℕ) (x high low v : ℕ) → ((i : ℕ) (b : Bit) → concatBit g high low v i ≡ some b → Says ρ g x i b)
     → (k i : ℕ) (f r : Field) → i + k ≤ 128 → Parts ρ g x i (f .base) (f .keep) (f .literal) → fieldFrom g high low v i k f ≡ some r
     → Parts ρ g x (i + k) (r .base) (r .keep) (r .literal)
 field-from ρ g x high low v says zero i f r l h e =
-    rw (add-zero i) (subst (λ (k : Field). Parts ρ g x i (k .base) (k .keep) (k .literal)) (some-has e) h)
+    rw (add-zero i) (subst (λ (k : Field). Parts ρ g x i (k .base) (k .keep) (k .literal)) (some-is e) h)
 field-from ρ g x high low v says (suc k) i f r l h e =
-    go (concatBit g high low v i) refl e (λ d q w. field-from ρ g x high low v says k (suc i) d r (omega arith) q w)
-  where
-    at : (d : Field) → (Parts ρ g x (suc i) (d .base) (d .keep) (d .literal) → fieldFrom g high low v (suc i) k d ≡ some r → Parts ρ g x (suc i + k) (r .base) (r .keep) (r .literal))
-        → Parts ρ g x (suc i) (d .base) (d .keep) (d .literal) → fieldFrom g high low v (suc i) k d ≡ some r
-        → Parts ρ g x (i + suc k) (r .base) (r .keep) (r .literal)
-    at d ih q w = let s : suc i + k ≡ i + suc k = omega arith in subst (λ (n : ℕ). Parts ρ g x n (r .base) (r .keep) (r .literal)) s (ih q w)
-
-    go : (o : Option Bit) → concatBit g high low v i ≡ o → given o (λ b. given (withBit f i b) (λ d. fieldFrom g high low v (suc i) k d) none) none ≡ some r
-        → ((d : Field) → Parts ρ g x (suc i) (d .base) (d .keep) (d .literal) → fieldFrom g high low v (suc i) k d ≡ some r → Parts ρ g x (suc i + k) (r .base) (r .keep) (r .literal))
-        → Parts ρ g x (i + suc k) (r .base) (r .keep) (r .literal)
-    go none q e ih = absurd (none-has e)
-    go (some b) q e ih = on (withBit f i b) refl e
-      where
-        on : (o : Option Field) → withBit f i b ≡ o → given o (λ d. fieldFrom g high low v (suc i) k d) none ≡ some r
-            → Parts ρ g x (i + suc k) (r .base) (r .keep) (r .literal)
-        on none w e = absurd (none-has e)
-        on (some d) w e = at d (ih d) (with-bit ρ g x i f d b (omega arith) h (says i b q) w) e
+    let p = given-is (concatBit g high low v i) _ e in
+    let q = given-is (withBit f i (p .0)) _ (p .2) in
+    let s : suc i + k ≡ i + suc k = omega arith in
+    subst (λ (n : ℕ). Parts ρ g x n (r .base) (r .keep) (r .literal)) s
+    (field-from ρ g x high low v says k (suc i) (q .0) r (omega arith)
+    (with-bit ρ g x i f (q .0) (p .0) (omega arith) h (says i (p .0) (p .1)) (q .1)) (q .2))
 
 gathers : (ρ : Env) (g : List ℕ) (x w : ℕ) (o : Option ℕ) (keep lit : ℕ) → Parts ρ g x w o keep lit → ((i : ℕ) → w ≤ i → bit x i ≡ 0) → Gathers ρ g x o keep lit
 gathers ρ g x w none keep lit h past = bit-ext x lit (λ i. go i (decLt i w))
@@ -502,10 +483,6 @@ gathers ρ g x w (some m) keep lit h past =
           bit-big lit w i (h .small .1) (omega arith),
         )
 
-pub provided-is : {A : Type 0} {a : A} (t : Bool) (o : Option A) → provided t o ≡ some a → o ≡ some a
-provided-is true o e = e
-provided-is false o e = absurd (none-has e)
-
 module _ (ρ : Env) (g : List ℕ) (inv : Inv ρ g) (high low v w a b : ℕ) (lh : high < countOf g) (ll : low < countOf g)
     (eh : value ρ g high ≡ some a) (el : value ρ g low ≡ some b) (typed : concatTyped (typeAt g high) (typeAt g low) v w ≡ true) (lw : w ≤ 128)
   where
@@ -525,13 +502,10 @@ module _ (ρ : Env) (g : List ℕ) (inv : Inv ρ g) (high low v w a b : ℕ) (lh
     past i l = let q = parted .narrow in upper i (omega arith) ∙ bit-big a (w - v) (i - v) high-small (omega arith)
 
     concat-says : (i : ℕ) (c : Bit) → concatBit g high low v i ≡ some c → Says ρ g (a * 2 ^ v + b) i c
-    concat-says i c e = go (ltb i v) refl e
-      where
-        go : (t : Bool) → ltb i v ≡ t → cond t (bitAt g DEPTH low i) (bitAt g DEPTH high (i - v)) ≡ some c → Says ρ g (a * 2 ^ v + b) i c
-        go true q e =
-            says-same ρ g (a * 2 ^ v + b) b i i c (bit-low-part a b v i low-small (ltb-true i v q)) (bit-sound ρ g inv DEPTH low i b ll el c e)
-        go false q e =
-            says-same ρ g (a * 2 ^ v + b) a i (i - v) c (upper i (ltb-false i v q)) (bit-sound ρ g inv DEPTH high (i - v) a lh eh c e)
+    concat-says i c =
+        by-test (λ (o : Option Bit). o ≡ some c → Says ρ g (a * 2 ^ v + b) i c) (ltb i v)
+        (λ q e. says-same ρ g (a * 2 ^ v + b) b i i c (bit-low-part a b v i low-small (ltb-true i v q)) (bit-sound ρ g inv DEPTH low i b ll el c e))
+        (λ q e. says-same ρ g (a * 2 ^ v + b) a i (i - v) c (upper i (ltb-false i v q)) (bit-sound ρ g inv DEPTH high (i - v) a lh eh c e))
 
     -- a concat gathered as bits of one node and of a literal
     pub field-sound : (f : Field) → bitfield g high low v w ≡ some f → FieldSays ρ g (a * 2 ^ v + b) w f
@@ -542,34 +516,10 @@ module _ (ρ : Env) (g : List ℕ) (inv : Inv ρ g) (high low v w a b : ℕ) (lh
         let p : Parts ρ g (a * 2 ^ v + b) w (f .base) (f .keep) (f .literal) =
         rw (← zero-add w)
         (field-from ρ g (a * 2 ^ v + b) high low v concat-says w 0 noBits f (omega arith) none-yet
-        (provided-is (lowFits g low v) (fieldFrom g high low v 0 w noBits) e)) in
+        (provided-is (lowFits g low v) (fieldFrom g high low v 0 w noBits) e .1)) in
         record { keep = p .small .0; literal = p .small .1; says = gathers ρ g (a * 2 ^ v + b) w (f .base) (f .keep) (f .literal) p past }
 
 -- ---- a base compared with itself under a mask
-
-code-back : (b : Binary) → binaryOf (binaryCode b) ≡ b
-code-back bi.Add = refl
-code-back bi.Sub = refl
-code-back bi.Mul = refl
-code-back bi.And = refl
-code-back bi.Or = refl
-code-back bi.Xor = refl
-code-back bi.ShiftLeft = refl
-code-back bi.ShiftRight = refl
-code-back bi.ArithmeticShiftRight = refl
-code-back bi.Equal = refl
-code-back bi.NotEqual = refl
-code-back bi.LessSigned = refl
-code-back bi.LessUnsigned = refl
-code-back bi.LessEqualSigned = refl
-code-back bi.LessEqualUnsigned = refl
-code-back bi.DivideSigned = refl
-code-back bi.RemainderSigned = refl
-code-back bi.DivideUnsigned = refl
-code-back bi.RemainderUnsigned = refl
-
-pub binary-is : (a b : Binary) → sameBinary a b ≡ true → a ≡ b
-binary-is a b e = sym (code-back a) ∙ ap binaryOf (eqb-true (binaryCode a) (binaryCode b) e) ∙ code-back b
 
 mask-is : (w k : ℕ) → w ≤ 128 → k < 2 ^ w → bitAnd (u128.not k) (mask w) ≡ 2 ^ w - 1 - k
 mask-is w k l q =
@@ -608,24 +558,41 @@ unfolding chainAt
 linked g n c e = go (operationAt g n) refl e
   where
     go : (p : Op) → operationAt g n ≡ p → chainOf g p ≡ some c → Linked g n c
-    go (node.constant k) q e = absurd (none-has e)
-    go (node.input i) q e = absurd (none-has e)
-    go (node.refine i) q e = absurd (none-has e)
-    go (node.effect i) q e = absurd (none-has e)
-    go (node.slice i s v) q e = absurd (none-has e)
-    go (node.concat i j v) q e = absurd (none-has e)
-    go (node.unary u i) q e = absurd (none-has e)
+    go (node.constant k) q e = absurd (none-some e)
+    go (node.input i) q e = absurd (none-some e)
+    go (node.refine i) q e = absurd (none-some e)
+    go (node.effect i) q e = absurd (none-some e)
+    go (node.slice i s v) q e = absurd (none-some e)
+    go (node.concat i j v) q e = absurd (none-some e)
+    go (node.unary u i) q e = absurd (none-some e)
     go (node.binary b i j) q e = on (literal g j) refl e
       where
         on : (k : Option ℕ) → literal g j ≡ k → chained b i k ≡ some c → Linked g n c
-        on none d e = absurd (none-has e)
+        on none d e = absurd (none-some e)
         on (some k) d e =
-            let f : record { op = b; base = i; value = k } ≡ c = some-has e in
+            let f : record { op = b; base = i; value = k } ≡ c = some-is e in
             record {
               constant = j;
               operation = q ∙ ap (λ (h : Chain). node.binary (h .op) (h .base) j) f;
               has = d ∙ ap (λ (h : Chain). some (h .value)) f;
             }
+
+-- node n is an operation by a constant
+module _ {ρ : Env} {g : List ℕ} (i : Inv ρ g) (n : ℕ) (l : n < countOf g) (c : Chain) (f : Linked g n c) where
+  pub chain-here : (c .base < countOf g) × (f .constant < countOf g)
+  chain-here = let b = below-at ρ g i n l (node.binary (c .op) (c .base) (f .constant)) (f .operation) in (omega arith, omega arith)
+
+  pub chain-typed : storedTyped (c .op) (typeAt g (c .base)) (typeAt g (f .constant)) (typeAt g n) ≡ true
+  chain-typed = typed-at ρ g i n l (node.binary (c .op) (c .base) (f .constant)) (f .operation)
+
+  pub chain-means : (v : ℕ) → value ρ g n ≡ some v
+      → (x : ℕ) × (value ρ g (c .base) ≡ some x) × (evaluateBinary (c .op) (typeAt g n) x (c .value) ≡ some v)
+  chain-means v e =
+      let t = typeAt g n in
+      let s = operands ρ g t (c .op) (c .base) (f .constant) v (means-at ρ g i n l v e (node.binary (c .op) (c .base) (f .constant)) (f .operation)) in
+      let y : s .y ≡ c .value = some-is (sym (s .right) ∙ literal-value ρ g i (f .constant) (c .value) (chain-here .1) (f .has)) in
+      let q = then-is (evaluateBinary (c .op) t (s .x) (s .y)) (ofType t) v (s .means) in
+      (s .x, s .left, ap (evaluateBinary (c .op) t (s .x)) (sym y) ∙ q .1 ∙ ap some (sym (typed-is t (q .0) v (q .2) .0)))
 
 -- y is x And c
 record AndSays (x y c w : ℕ) : Type 0 where
@@ -642,10 +609,6 @@ record OrSays (ρ : Env) (g : List ℕ) (i y c w : ℕ) : Type 0 where
   small : c < 2 ^ w
 
 module _ (ρ : Env) (g : List ℕ) (inv : Inv ρ g) where
-  -- a constant operand of a Bits(w) operation
-  literal-small : (j c w : ℕ) → j < countOf g → typeAt g j ≡ ty.Bits w → literal g j ≡ some c → c < 2 ^ w
-  literal-small j c w l t e = subst (λ (k : ScalarType). c < size k) t (value-small inv j l c (literal-value ρ g inv j c l e))
-
   valued-is : (t : ScalarType) (w z v : ℕ) → t ≡ ty.Bits w → z < 2 ^ w → valued t z ≡ some v → v ≡ z
   valued-is t w z v q l e =
       let f : valued (ty.Bits w) z ≡ some v = subst (λ (k : ScalarType). valued k z ≡ some v) q e in
@@ -656,7 +619,7 @@ module _ (ρ : Env) (g : List ℕ) (inv : Inv ρ g) where
   and-value n i j c w x y l e lit t ex ey =
       let b = below-at ρ g inv n l (node.binary bi.And i j) e in
       let q = tests (sameType (typeAt g i) (typeAt g n)) (sameType (typeAt g j) (typeAt g n)) (typed-at ρ g inv n l (node.binary bi.And i j) e) in
-      let small : c < 2 ^ w = literal-small j c w (omega arith) (same-type (typeAt g j) (typeAt g n) (q .1) ∙ t) lit in
+      let small : c < 2 ^ w = literal-below inv j c (ty.Bits w) (omega arith) (same-type (typeAt g j) (typeAt g n) (q .1) ∙ t) lit in
       let s = operands ρ g (typeAt g n) bi.And i j y (means-at ρ g inv n l y ey (node.binary bi.And i j) e) in
       let xs : s .x ≡ x = some-is (sym (s .left) ∙ ex) in
       let ys : s .y ≡ c = some-is (sym (s .right) ∙ literal-value ρ g inv j c (omega arith) lit) in
@@ -669,7 +632,7 @@ module _ (ρ : Env) (g : List ℕ) (inv : Inv ρ g) where
       let b = below-at ρ g inv n l (node.binary bi.Or i j) e in
       let q = tests (sameType (typeAt g i) (typeAt g n)) (sameType (typeAt g j) (typeAt g n)) (typed-at ρ g inv n l (node.binary bi.Or i j) e) in
       let ti : typeAt g i ≡ ty.Bits w = same-type (typeAt g i) (typeAt g n) (q .0) ∙ t in
-      let small : c < 2 ^ w = literal-small j c w (omega arith) (same-type (typeAt g j) (typeAt g n) (q .1) ∙ t) lit in
+      let small : c < 2 ^ w = literal-below inv j c (ty.Bits w) (omega arith) (same-type (typeAt g j) (typeAt g n) (q .1) ∙ t) lit in
       let s = operands ρ g (typeAt g n) bi.Or i j y (means-at ρ g inv n l y ey (node.binary bi.Or i j) e) in
       let ys : s .y ≡ c = some-is (sym (s .right) ∙ literal-value ρ g inv j c (omega arith) lit) in
       let ls : s .x < 2 ^ w = subst (λ (k : ScalarType). s .x < size k) ti (value-small inv i (omega arith) (s .x) (s .left)) in
@@ -730,7 +693,7 @@ module _ (ρ : Env) (g : List ℕ) (inv : Inv ρ g) (n w x y : ℕ) (l : n < cou
   bare-update : (u : Update) → some (record { preserved = n; literal = 0 }) ≡ some u → chainAt g (u .preserved) ≡ some c
       → UpdateSays x y (c .value) (u .literal) w
   bare-update u e q =
-      let f : record { preserved = n; literal = 0 } ≡ u = some-has e in
+      let f : record { preserved = n; literal = 0 } ≡ u = some-is e in
       let fp : n ≡ u .preserved = ap (λ (h : Update). h .preserved) f in
       let fl : 0 ≡ u .literal = ap (λ (h : Update). h .literal) f in
       let s = chain-value ρ g inv n w x y c l t (ap (chainAt g) fp ∙ q) o ex ey in
@@ -754,9 +717,9 @@ module _ (ρ : Env) (g : List ℕ) (inv : Inv ρ g) (n w x y : ℕ) (l : n < cou
               → cond z (given k (λ a. some (record { preserved = i; literal = a })) none) (some (record { preserved = n; literal = 0 })) ≡ some u
               → UpdateSays x y (c .value) (u .literal) w
           on false zb k zk e = bare-update u e q
-          on true zb none zk e = absurd (none-has e)
+          on true zb none zk e = absurd (none-some e)
           on true zb (some k) zk e =
-              let f : record { preserved = i; literal = k } ≡ u = some-has e in
+              let f : record { preserved = i; literal = k } ≡ u = some-is e in
               let fp : i ≡ u .preserved = ap (λ (h : Update). h .preserved) f in
               let fl : k ≡ u .literal = ap (λ (h : Update). h .literal) f in
               let r = or-value ρ g inv n i j k w y l (d ∙ ap (λ (h : Binary). node.binary h i j) (binary-is b bi.Or zb)) zk t ey in
@@ -771,6 +734,66 @@ end-found e = let z : _≡_ {A = ℕ} 0 1 = cc in omega arith
 
 found-is : {a b : Mask} → found a ≡ found b → a ≡ b
 found-is e = cc
+
+-- how a look at a base and an updated node found a mask
+pub record Looked (g : List ℕ) (o : Binary) (base updated : ℕ) (m : Mask) : Type 0 where
+  pub width : ℕ
+  pub update : Update
+  pub chain : Chain
+  pub typed : typeAt g base ≡ ty.Bits width
+  pub also : typeAt g updated ≡ ty.Bits width
+  pub updates : updateAt g updated ≡ some update
+  pub chains : chainAt g (update .preserved) ≡ some chain
+  pub kept : keeps base width (update .literal) chain ≡ true
+  pub is : changed o base width (update .literal) chain ≡ m
+
+module _ (g : List ℕ) (o : Binary) where
+  pub looked : (base updated : ℕ) (m : Mask) → lookAt g o base updated ≡ found m → Looked g o base updated m
+  unfolding lookAt
+  looked base updated m = go (typeAt g base) refl
+    where
+      Finds : Look → Type 0
+      Finds k = k ≡ found m → Looked g o base updated m
+
+      go : (t : ScalarType) → typeAt g base ≡ t → Finds (lookTyped g o base updated t)
+      go ty.Bool tb = λ e. absurd (next-found e)
+      go ty.Integer tb = λ e. absurd (next-found e)
+      go (ty.Bits w) tb =
+          by-test Finds (sameType (typeAt g updated) (ty.Bits w))
+          (λ tu.
+          by-given Finds (updateAt g updated)
+          (λ u eu.
+          by-given Finds (chainAt g (u .preserved))
+          (λ c ec.
+          by-test Finds (keeps base w (u .literal) c)
+          (λ k e.
+          record {
+            width = w;
+            update = u;
+            chain = c;
+            typed = tb;
+            also = same-type (typeAt g updated) (ty.Bits w) tu;
+            updates = eu;
+            chains = ec;
+            kept = k;
+            is = found-is e;
+          })
+          (λ k e. absurd (next-found e)))
+          (λ n e. absurd (next-found e)))
+          (λ n e. absurd (end-found e)))
+          (λ n e. absurd (next-found e))
+
+  -- either node being the base
+  pub first-looked : (left right : ℕ) (m : Mask) → maskedComparison g o left right ≡ some m → (lookAt g o left right ≡ found m) ⊎ (lookAt g o right left ≡ found m)
+  unfolding maskedComparison
+  first-looked left right m = go (lookAt g o left right) (lookAt g o right left)
+    where
+      go : (a b : Look) → firstFound a b ≡ some m → (a ≡ found m) ⊎ (b ≡ found m)
+      go next next e = absurd (none-some e)
+      go next end e = absurd (none-some e)
+      go next (found h) e = inr (ap found (some-is e))
+      go end b e = absurd (none-some e)
+      go (found h) b e = inl (ap found (some-is e))
 
 module _ (ρ : Env) (g : List ℕ) (inv : Inv ρ g) (o : Binary) where
   module _ (base updated x y : ℕ) (lb : base < countOf g) (lu : updated < countOf g) (ex : value ρ g base ≡ some x) (ey : value ρ g updated ≡ some y) where
@@ -804,38 +827,11 @@ module _ (ρ : Env) (g : List ℕ) (inv : Inv ρ g) (o : Binary) where
         }
 
     look-says : (m : Mask) → lookAt g o base updated ≡ found m → MaskSays ρ g o x y m
-    unfolding lookAt
-    look-says m e = go (typeAt g base) refl e
-      where
-        go : (t : ScalarType) → typeAt g base ≡ t → lookTyped g o base updated t ≡ found m → MaskSays ρ g o x y m
-        go ty.Bool tb e = absurd (next-found e)
-        go ty.Integer tb e = absurd (next-found e)
-        go (ty.Bits w) tb e = typed (sameType (typeAt g updated) (ty.Bits w)) refl (updateAt g updated) refl e
-          where
-            chain : (u : Update) → updateAt g updated ≡ some u → typeAt g updated ≡ ty.Bits w → (k : Option Chain) → chainAt g (u .preserved) ≡ k
-                → given k (λ c. cond (keeps base w (u .literal) c) (found (changed o base w (u .literal) c)) next) next ≡ found m → MaskSays ρ g o x y m
-            chain u eu tu none ec e = absurd (next-found e)
-            chain u eu tu (some c) ec e = kept (keeps base w (u .literal) c) refl e
-              where
-                kept : (b : Bool) → keeps base w (u .literal) c ≡ b → cond b (found (changed o base w (u .literal) c)) next ≡ found m → MaskSays ρ g o x y m
-                kept true k e = subst (λ (h : Mask). MaskSays ρ g o x y h) (found-is e) (changed-says w u c tb tu eu ec k)
-                kept false k e = absurd (next-found e)
+    look-says m e =
+        let s = looked g o base updated m e in
+        subst (MaskSays ρ g o x y) (s .is) (changed-says (s .width) (s .update) (s .chain) (s .typed) (s .also) (s .updates) (s .chains) (s .kept))
 
-            typed : (b : Bool) → sameType (typeAt g updated) (ty.Bits w) ≡ b → (u : Option Update) → updateAt g updated ≡ u
-                → cond b (given u (λ h. lookUpdate g o base w h) end) next ≡ found m → MaskSays ρ g o x y m
-            typed false tu u eu e = absurd (next-found e)
-            typed true tu none eu e = absurd (end-found e)
-            typed true tu (some u) eu e = chain u eu (same-type (typeAt g updated) (ty.Bits w) tu) (chainAt g (u .preserved)) refl e
-
-  -- either node being the base
   pub masked-sound : (left right x y : ℕ) → left < countOf g → right < countOf g → value ρ g left ≡ some x → value ρ g right ≡ some y → (m : Mask)
       → maskedComparison g o left right ≡ some m → MaskSays ρ g o x y m
-  unfolding maskedComparison
-  masked-sound left right x y ll lr ex ey m e = go (lookAt g o left right) refl (lookAt g o right left) refl e
-    where
-      go : (a : Look) → lookAt g o left right ≡ a → (b : Look) → lookAt g o right left ≡ b → firstFound a b ≡ some m → MaskSays ρ g o x y m
-      go next p next q e = absurd (none-has e)
-      go next p end q e = absurd (none-has e)
-      go next p (found h) q e = mask-swap ρ g o x y m (look-says right left y x lr ll ey ex m (q ∙ ap found (some-has e)))
-      go end p b q e = absurd (none-has e)
-      go (found h) p b q e = look-says left right x y ll lr ex ey m (p ∙ ap found (some-has e))
+  masked-sound left right x y ll lr ex ey m e =
+      ⊎-elim (look-says left right x y ll lr ex ey m) (λ q. mask-swap ρ g o x y m (look-says right left y x lr ll ey ex m q)) (first-looked g o left right m e)

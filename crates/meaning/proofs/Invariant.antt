@@ -15,21 +15,25 @@ use lib.Signed.{mag}
 use Rattle.range.specs.Interval.{Interval, _∈_, both}
 use Rattle.range.specs.declared.ScalarType.{ScalarType}
 use Rattle.range.specs.declared.ScalarType.the-variants as ty
+use Rattle.range.proofs.Valid.{Valid}
 use Rattle.evaluate.specs.Operator.{typeWidth}
 use Rattle.evaluate.specs.declared.Binary.{Binary}
 use Rattle.evaluate.specs.declared.Binary.the-variants as bi
 use Rattle.graph.specs.Layout.{REGION, LIMIT, countOf}
 use Rattle.graph.specs.Node as node
-use Rattle.graph.specs.Node.{Op, Parts, nodeAt, typeAt, rangeAt, operationAt, aliasAt, wordsOf}
+use Rattle.graph.specs.Node.{Op, Parts, nodeAt, typeAt, rangeAt, operationAt, aliasAt, opZ, wordsOf}
+use Rattle.graph.specs.WellFormed.{isGraph}
 use Rattle.graph.specs.Insert as insert
 use Rattle.graph.specs.Insert.{Reply, Made, start, follow, resolve, sameKey, interned, appended, foundOr, inserted}
-use Rattle.graph.proofs.Codes.{Stored}
+use Rattle.graph.proofs.Codes.{Stored, opOffset}
+use Rattle.graph.proofs.Grown.{graph-facts}
 use Rattle.graph.proofs.Interned.{same-key, lowest-some}
 use Rattle.graph.proofs.Nodes.{Holds, type-read, operation-read, length-words, appended-made, appended-full, appended-length, appended-count, appended-other, appended-new, node-other}
 use Rattle.fold.specs.Shape.{sameType, narrowType}
 use Rattle.native.specs.Typing.{isNumber, unaryTyped, binaryTyped, concatTyped}
 use Rattle.meaning.specs.Value.{Env, size, integerOf, operationMeans, value}
 use Rattle.meaning.proofs.Values.{value-same, value-step, means-same}
+use Rattle.graph.proofs.Appended.{Exact, Keys, exact-new, exact-old, keys-grown, graph-grown, range-valid}
 
 -- ---- types of stored operations
 
@@ -103,8 +107,11 @@ Refined ρ g t (node.unary u i) = Unit {0}
 Refined ρ g t (node.binary b i j) = Unit {0}
 
 pub record Inv (ρ : Env) (g : List ℕ) : Type 0 where
+  pub graph : isGraph g ≡ true
   pub size : length g ≡ REGION
   pub few : countOf g ≤ LIMIT
+  pub exact : (n : ℕ) → n < countOf g → Exact g n
+  pub keys : Keys g
   pub below : (n : ℕ) → n < countOf g → start (operationAt g n) ≤ n
   pub width : (n : ℕ) → n < countOf g → typeWidth (typeAt g n) ≤ 128
   pub typed : (n : ℕ) → n < countOf g → Typed g (typeAt g n) (operationAt g n)
@@ -115,6 +122,10 @@ pub record Inv (ρ : Env) (g : List ℕ) : Type 0 where
 
 pub inv-step : {ρ : Env} {g : List ℕ} → Inv ρ g → (n : ℕ) → n < countOf g → value ρ g n ≡ operationMeans ρ (typeAt g n) (operationAt g n) (value ρ g)
 inv-step {ρ} {g} i n l = value-step ρ g n (i .below n l)
+
+-- its range, if it has one, passes question 1
+pub inv-valid : {ρ : Env} {g : List ℕ} → Inv ρ g → (n : ℕ) → n < countOf g → (a : Interval) → rangeAt g n ≡ some a → Valid (typeAt g n) a
+inv-valid {ρ} {g} i = range-valid (graph-facts g (i .graph))
 
 -- ---- one graph goes on from another: its nodes are there, with their types, ranges and operations
 
@@ -202,11 +213,14 @@ module _ (ρ : Env) (g : List ℕ) (i : Inv ρ g) where
 
 -- ---- an insertion
 
--- a node that may be stored: its words can be read back, operands are below, types hold, its value lies in its range
+-- a node that may be stored: its words can be read back and pass question 1, types hold, its value lies in its range
 pub record Storable (ρ : Env) (g : List ℕ) (t : ScalarType) (r : Option Interval) (o : Op) : Type 0 where
   pub stored : Stored t r o
   pub width : typeWidth t ≤ 128
   pub below : start o ≤ countOf g
+  pub offset : opOffset o < 128
+  pub parameter : opZ o ≤ 128
+  pub valid : (a : Interval) → r ≡ some a → Valid t a
   pub typed : Typed g t o
   pub refined : Refined ρ g t o
   pub ends : (a : Interval) → r ≡ some a → Ends a
@@ -281,10 +295,27 @@ module _ (ρ : Env) (g : List ℕ) (t : ScalarType) (r : Option Interval) (o : O
     unfolding ws grown
     grown-size = appended-length g (wordsOf t r o) (i .size) (length-words t r o) room
 
-    grown-inv : Inv ρ grown
-    grown-inv = record {
+    grown-exact : (n : ℕ) → n < countOf grown → Exact grown n
+    unfolding ws grown
+    grown-exact =
+        each (Exact grown) (λ n l. exact-old g t r o (i .size) room (s .stored) n (λ e. omega arith) (i .exact n l))
+        (exact-new g t r o (i .size) room (s .stored))
+
+    grown-keys : interned g o ws ≡ none → Keys grown
+    unfolding ws grown
+    grown-keys e = keys-grown g t r o (i .size) room (s .stored) (i .below) (i .exact) e (i .keys)
+
+    grown-graph : isGraph grown ≡ true
+    unfolding ws grown
+    grown-graph = graph-grown g t r o (graph-facts g (i .graph)) room (s .stored) (s .width) (s .below) (s .offset) (s .parameter) (s .valid)
+
+    grown-inv : interned g o ws ≡ none → Inv ρ grown
+    grown-inv e = record {
+      graph = grown-graph;
       size = grown-size;
       few = omega (arith, count-grown);
+      exact = grown-exact;
+      keys = grown-keys e;
       below =
           each (λ n. start (operationAt grown n) ≤ n) (λ n l. rw (ext-operation grows n l) (i .below n l))
           (rw (new .operation) (s .below));
@@ -335,16 +366,16 @@ module _ (ρ : Env) (g : List ℕ) (t : ScalarType) (r : Option Interval) (o : O
   unfoldable made-good : Made → Type 0
   made-good m = Answered ρ g t (operationMeans ρ t o (value ρ g)) (m .answer) (m .words)
 
-  new-good : (b : Bool) → ltb (countOf g) LIMIT ≡ b → made-good (appended g ws)
+  new-good : interned g o ws ≡ none → (b : Bool) → ltb (countOf g) LIMIT ≡ b → made-good (appended g ws)
   unfolding made-good ws grown
-  new-good true e =
+  new-good u true e =
       let room = ltb-true (countOf g) LIMIT e in
       let a : appended g (wordsOf t r o) .answer ≡ insert.id (countOf g) = ap (λ (m : Made). m .answer) (appended-made g (wordsOf t r o) room) in
       rw a (
-        record { grows = grows room; inv = grown-inv room },
+        record { grows = grows room; inv = grown-inv room u },
         record { here = omega (arith, count-grown room); type = new room .type; means = λ v q. new-means room ∙ q },
       )
-  new-good false e = rw (appended-full g (wordsOf t r o) e) (kept-refl i)
+  new-good u false e = rw (appended-full g (wordsOf t r o) e) (kept-refl i)
 
   -- an insertion keeps the invariant, and its node means the operation
   pub insert-good : Answered ρ g t (operationMeans ρ t o (value ρ g)) (inserted g t r o .answer) (inserted g t r o .words)
@@ -352,5 +383,5 @@ module _ (ρ : Env) (g : List ℕ) (t : ScalarType) (r : Option Interval) (o : O
   insert-good = go (interned g o (wordsOf t r o)) refl
     where
       go : (x : Option ℕ) → interned g o (wordsOf t r o) ≡ x → made-good (foundOr g x (appended g (wordsOf t r o)))
-      go none e = new-good (ltb (countOf g) LIMIT) refl
+      go none e = new-good e (ltb (countOf g) LIMIT) refl
       go (some n) e = (kept-refl i, found n e)

@@ -1,3 +1,4 @@
+pub mod Answers
 pub mod Values
 pub mod Invariant
 pub mod Tree

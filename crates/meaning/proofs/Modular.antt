@@ -1,107 +1,128 @@
 -- A truncation pushed through arithmetic, and seen through Refines: modular's plan claims what is asked of it. Assumes nothing.
 use mathlib.Core.Path.{_≡_, refl, sym, ap, _∙_, subst}
-use mathlib.Core.Bool.{Bool, true, false, cond, false≢true}
+use mathlib.Core.Bool.{Bool, true, false, false≢true}
 use mathlib.Core.List.{List}
 use mathlib.Core.Option.{Option, none, some}
 use Prim.Native.Nat.{ℕ, zero, suc, _+_, _-_, _*_, _%_, _^_, _≤_, _<_}
-use native.Mathlib.Nat.{mod-mod, mod-lt, lt-of-le-of-lt, mod-le}
+use native.Mathlib.Nat.{mod-mod, lt-of-le-of-lt, mod-le}
 use native.Mathlib.Omega.{arith}
 use borrow.Author.Tests.{eq-eqb, leb-true}
 use lib.Bits.{bitAnd, bitOr, bitXor, and-mod, or-mod, xor-mod}
+use lib.Dec.{lit<}
 use lib.IntN.{ℤ, pos, _+ℤ_, _-ℤ_, _*ℤ_}
-use lib.Pow.{pow-pos}
 use Rattle.word.specs.Value.{signed, residue, fits, fitted, only}
-use Rattle.word.proofs.Integer.{residue-add, residue-sub, residue-mul, residue-pos, residue-signed}
+use Rattle.word.proofs.Integer.{residue-add, residue-sub, residue-mul, residue-pos, residue-signed, signed-residue}
+use Rattle.range.specs.Interval.{both}
 use Rattle.range.specs.declared.ScalarType.{ScalarType}
 use Rattle.range.specs.declared.ScalarType.the-variants as ty
+use Rattle.range.proofs.Answers.{none-some, some-is}
 use Rattle.evaluate.specs.Evaluate.{mapped, reduced, evaluateBinary}
 use Rattle.evaluate.specs.U128 as u128
 use Rattle.evaluate.specs.declared.Binary.{Binary}
-use Rattle.evaluate.specs.declared.Binary.the-variants as bi
 use Rattle.evaluate.specs.declared.Unary.the-variants as un
-use Rattle.evaluate.proofs.Fields.{narrow, residue-narrow}
+use Rattle.evaluate.proofs.Fields.{narrow, residue-narrow, fits-below}
 use Rattle.fold.specs.Operator.{modularOps}
 use Rattle.graph.specs.Layout.{LIMIT, countOf}
 use Rattle.graph.specs.Node as node
 use Rattle.graph.specs.Node.{Op, typeAt, operationAt}
 use Rattle.graph.specs.Insert.{start}
-use Rattle.fold.specs.Shape.{given, sameType, isAny, refinedOf, refinedAt}
+use Rattle.fold.specs.Shape.{sameType, isAny, refinedOf, refinedAt}
 use Rattle.plan.specs.Plan as plan
 use Rattle.plan.specs.Single.{View, same, source, viewFrom, viewAt, isWide, truncatedPlan, modularOf, modularPlan}
 use Rattle.meaning.specs.Value.{Env, size, ofType, valued, andThen, unaryMeans, binaryMeans, operationMeans, value}
-use Rattle.meaning.proofs.Values.{none-some, some-is, typed-is, typed-of, then-is}
+use Rattle.meaning.proofs.Constants.{low-valued, pattern}
+use Rattle.meaning.proofs.Answers.{by-test, of-any, by-given}
+use Rattle.meaning.proofs.Values.{typed-is, typed-of, then-is}
 use Rattle.meaning.proofs.Invariant.{storedTyped, Refined, Inv, inv-step, resolve-leads}
 use Rattle.meaning.proofs.Plans.{Covers, Claim}
-use Rattle.meaning.proofs.Views.{same-type, value-small, value-pattern, by-test, truncate-valued, seen}
+use Rattle.meaning.proofs.Views.{same-type, value-small, value-pattern, truncate-valued, seen}
 
 -- ---- sums, differences and products, by their residues
 
-module _ (f : ℤ → ℤ → ℤ) (F : ℕ → ℕ → ℕ)
-    (alike : (k : ℕ) (x y u v : ℤ) → residue k x ≡ residue k u → residue k y ≡ residue k v → residue k (f x y) ≡ residue k (f u v))
-    (wraps : (p q : ℕ) → p < 2 ^ 128 → q < 2 ^ 128 → F p q ≡ residue 128 (f (pos p) (pos q))) (w : ℕ) (wide : w ≤ 128) (p q : ℕ)
-    (lp : p < 2 ^ 128) (lq : q < 2 ^ 128) where
-  low : (n : ℕ) → n % 2 ^ w < 2 ^ 128 → residue w (pos (n % 2 ^ w)) ≡ residue w (pos n)
-  unfolding residue
-  low n l = mod-mod n (2 ^ w)
+-- G k is f, of residues modulo 2 ^ k
+abbrev pub Residues : (ℤ → ℤ → ℤ) → (ℕ → ℕ → ℕ → ℕ) → Type 0
+Residues f G = (k : ℕ) (x y : ℤ) → G k (residue k x) (residue k y) ≡ residue k (f x y)
 
-  part : (n : ℕ) → n < 2 ^ 128 → n % 2 ^ w < 2 ^ 128
-  part n l = lt-of-le-of-lt (mod-le n (2 ^ w)) l
+-- modulo 2 ^ k
+abbrev pub sum : ℕ → ℕ → ℕ → ℕ
+sum k a b = (a + b) % 2 ^ k
 
-  -- the operation on the low bits
-  pub low-value : F (p % 2 ^ w) (q % 2 ^ w) % 2 ^ w ≡ residue w (f (pos p) (pos q))
-  low-value =
-      ap (λ (n : ℕ). n % 2 ^ w) (wraps (p % 2 ^ w) (q % 2 ^ w) (part p lp) (part q lq)) ∙ residue-narrow (f (pos (p % 2 ^ w)) (pos (q % 2 ^ w))) 128 w wide
-      ∙ alike w (pos (p % 2 ^ w)) (pos (q % 2 ^ w)) (pos p) (pos q) (low p (part p lp)) (low q (part q lq))
+abbrev pub difference : ℕ → ℕ → ℕ → ℕ
+difference k a b = (a + (2 ^ k - b)) % 2 ^ k
 
-  -- on wider Bits
-  pub from-bits : (u : ℕ) → w ≤ u → F (p % 2 ^ w) (q % 2 ^ w) % 2 ^ w ≡ F p q % 2 ^ u % 2 ^ w
-  from-bits u l = low-value ∙ sym (narrow (F p q) u w l ∙ ap (λ (n : ℕ). n % 2 ^ w) (wraps p q lp lq) ∙ residue-narrow (f (pos p) (pos q)) 128 w wide)
+abbrev product : ℕ → ℕ → ℕ → ℕ
+product k a b = a * b % 2 ^ k
 
-  plain : (n : ℕ) → n < 2 ^ 128 → residue w (signed 128 n) ≡ residue w (pos n)
-  unfolding residue
-  plain n l = sym (residue-narrow (signed 128 n) 128 w wide) ∙ ap (λ (m : ℕ). m % 2 ^ w) (residue-signed 128 n l)
+-- a checked integer as a pattern
+abbrev pub checked : ℤ → Option ℕ
+checked z = mapped (reduced ty.Integer) (mapped (residue 128) (fitted z))
 
-  -- on Integer
-  pub from-integer : F (p % 2 ^ w) (q % 2 ^ w) % 2 ^ w ≡ residue 128 (f (signed 128 p) (signed 128 q)) % 2 ^ w
-  from-integer =
-      low-value
-      ∙ sym (residue-narrow (f (signed 128 p) (signed 128 q)) 128 w wide ∙ alike w (signed 128 p) (signed 128 q) (pos p) (pos q) (plain p lp) (plain q lq))
+pub checked-is : (z : ℤ) (v : ℕ) → checked z ≡ some v → (v ≡ residue 128 z) × (signed 128 v ≡ z)
+checked-is z v e = by (fits z) refl e
+  where
+    by : (b : Bool) → fits z ≡ b → mapped (reduced ty.Integer) (mapped (residue 128) (only b z)) ≡ some v → (v ≡ residue 128 z) × (signed 128 v ≡ z)
+    by true q e =
+        let p : v ≡ residue 128 z = sym (some-is e) in
+        (p, ap (signed 128) p ∙ signed-residue 128 z (lit< tt) (fits-below z .0 q))
+    by false q e = absurd (none-some e)
 
-  -- a checked result on Integer
-  pub checked : (y : ℕ) → mapped (reduced ty.Integer) (mapped (residue 128) (fitted (f (signed 128 p) (signed 128 q)))) ≡ some y
-      → F (p % 2 ^ w) (q % 2 ^ w) % 2 ^ w ≡ y % 2 ^ w
-  checked y e = by (fits (f (signed 128 p) (signed 128 q))) e
-    where
-      by : (b : Bool) → mapped (reduced ty.Integer) (mapped (residue 128) (only b (f (signed 128 p) (signed 128 q)))) ≡ some y
-          → F (p % 2 ^ w) (q % 2 ^ w) % 2 ^ w ≡ y % 2 ^ w
-      by true q = from-integer ∙ ap (λ (n : ℕ). n % 2 ^ w) (some-is q)
-      by false q = absurd (none-some q)
+module _ (f : ℤ → ℤ → ℤ) (G : ℕ → ℕ → ℕ → ℕ) (law : Residues f G) where
+  pub alike : (k : ℕ) (x y u v : ℤ) → residue k x ≡ residue k u → residue k y ≡ residue k v → residue k (f x y) ≡ residue k (f u v)
+  alike k x y u v d e = sym (law k x y) ∙ (λ i. G k (d i) (e i)) ∙ law k u v
+
+  pub wraps : (k p q : ℕ) → p < 2 ^ k → q < 2 ^ k → G k p q ≡ residue k (f (pos p) (pos q))
+  wraps k p q lp lq = (λ i. G k (sym (residue-pos k p lp) i) (sym (residue-pos k q lq) i)) ∙ law k (pos p) (pos q)
+
+  -- on patterns, within w bits
+  pub in-bits : (w : ℕ) → w ≤ 128 → (p q : ℕ) → p < 2 ^ 128 → q < 2 ^ 128 → G 128 p q % 2 ^ w ≡ residue w (f (pos p) (pos q))
+  in-bits w wide p q lp lq = ap (λ (n : ℕ). n % 2 ^ w) (wraps 128 p q lp lq) ∙ residue-narrow (f (pos p) (pos q)) 128 w wide
+
+  narrowed : (w p q : ℕ) → w ≤ 128 → p < 2 ^ w → q < 2 ^ w → G 128 p q % 2 ^ w ≡ G w p q
+  narrowed w p q wide lp lq = in-bits w wide p q (pattern (ty.Bits w) p wide lp) (pattern (ty.Bits w) q wide lq) ∙ sym (wraps w p q lp lq)
+
+  module _ (w : ℕ) (wide : w ≤ 128) (p q : ℕ) (lp : p < 2 ^ 128) (lq : q < 2 ^ 128) where
+    low : (n : ℕ) → residue w (pos (n % 2 ^ w)) ≡ residue w (pos n)
+    unfolding residue
+    low n = mod-mod n (2 ^ w)
+
+    part : (n : ℕ) → n < 2 ^ 128 → n % 2 ^ w < 2 ^ 128
+    part n l = lt-of-le-of-lt (mod-le n (2 ^ w)) l
+
+    -- the operation on the low bits
+    low-value : G 128 (p % 2 ^ w) (q % 2 ^ w) % 2 ^ w ≡ residue w (f (pos p) (pos q))
+    low-value =
+        in-bits w wide (p % 2 ^ w) (q % 2 ^ w) (part p lp) (part q lq) ∙ alike w (pos (p % 2 ^ w)) (pos (q % 2 ^ w)) (pos p) (pos q) (low p) (low q)
+
+    -- on wider Bits
+    from-bits : (u : ℕ) → w ≤ u → G 128 (p % 2 ^ w) (q % 2 ^ w) % 2 ^ w ≡ G 128 p q % 2 ^ u % 2 ^ w
+    from-bits u l = low-value ∙ sym (narrow (G 128 p q) u w l ∙ in-bits w wide p q lp lq)
+
+    plain : (n : ℕ) → n < 2 ^ 128 → residue w (signed 128 n) ≡ residue w (pos n)
+    unfolding residue
+    plain n l = sym (residue-narrow (signed 128 n) 128 w wide) ∙ ap (λ (m : ℕ). m % 2 ^ w) (residue-signed 128 n l)
+
+    -- a checked result on Integer
+    from-checked : (y : ℕ) → checked (f (signed 128 p) (signed 128 q)) ≡ some y → G 128 (p % 2 ^ w) (q % 2 ^ w) % 2 ^ w ≡ y % 2 ^ w
+    from-checked y e =
+        low-value
+        ∙ sym (residue-narrow (f (signed 128 p) (signed 128 q)) 128 w wide ∙ alike w (signed 128 p) (signed 128 q) (pos p) (pos q) (plain p lp) (plain q lq))
+        ∙ ap (λ (n : ℕ). n % 2 ^ w) (sym (checked-is (f (signed 128 p) (signed 128 q)) y e .0))
+
+-- a wrapped difference within w bits
+pub sub-low : (w a b : ℕ) → w ≤ 128 → a < 2 ^ w → b < 2 ^ w → u128.wrapping-sub a b % 2 ^ w ≡ (a + (2 ^ w - b)) % 2 ^ w
+sub-low = narrowed _-ℤ_ difference residue-sub
 
 -- ---- the same of and, or and exclusive or
 
-module _ (F : ℕ → ℕ → ℕ) (parts : (a b k : ℕ) → F a b % 2 ^ k ≡ F (a % 2 ^ k) (b % 2 ^ k)) (w p q : ℕ) where
+-- F's low bits are F of its operands' low bits
+abbrev Parts : (ℕ → ℕ → ℕ) → Type 0
+Parts F = (a b k : ℕ) → F a b % 2 ^ k ≡ F (a % 2 ^ k) (b % 2 ^ k)
+
+module _ (F : ℕ → ℕ → ℕ) (parts : Parts F) (w p q : ℕ) where
   pub bitwise : F (p % 2 ^ w) (q % 2 ^ w) % 2 ^ w ≡ F p q % 2 ^ w
   bitwise = parts (p % 2 ^ w) (q % 2 ^ w) w ∙ (λ i. F (mod-mod p (2 ^ w) i) (mod-mod q (2 ^ w) i)) ∙ sym (parts p q w)
 
 -- ---- one law for the six operators
-
-pub alike-add : (k : ℕ) (x y u v : ℤ) → residue k x ≡ residue k u → residue k y ≡ residue k v → residue k (x +ℤ y) ≡ residue k (u +ℤ v)
-alike-add k x y u v e f = sym (residue-add k x y) ∙ (λ i. (e i + f i) % 2 ^ k) ∙ residue-add k u v
-
-pub alike-sub : (k : ℕ) (x y u v : ℤ) → residue k x ≡ residue k u → residue k y ≡ residue k v → residue k (x -ℤ y) ≡ residue k (u -ℤ v)
-alike-sub k x y u v e f = sym (residue-sub k x y) ∙ (λ i. (e i + (2 ^ k - f i)) % 2 ^ k) ∙ residue-sub k u v
-
-alike-mul : (k : ℕ) (x y u v : ℤ) → residue k x ≡ residue k u → residue k y ≡ residue k v → residue k (x *ℤ y) ≡ residue k (u *ℤ v)
-alike-mul k x y u v e f = sym (residue-mul k x y) ∙ (λ i. e i * f i % 2 ^ k) ∙ residue-mul k u v
-
-pub wraps-add : (p q : ℕ) → p < 2 ^ 128 → q < 2 ^ 128 → u128.wrapping-add p q ≡ residue 128 (pos p +ℤ pos q)
-wraps-add p q lp lq = (λ i. (sym (residue-pos 128 p lp) i + sym (residue-pos 128 q lq) i) % 2 ^ 128) ∙ residue-add 128 (pos p) (pos q)
-
-pub wraps-sub : (p q : ℕ) → p < 2 ^ 128 → q < 2 ^ 128 → u128.wrapping-sub p q ≡ residue 128 (pos p -ℤ pos q)
-wraps-sub p q lp lq = (λ i. (sym (residue-pos 128 p lp) i + (2 ^ 128 - sym (residue-pos 128 q lq) i)) % 2 ^ 128) ∙ residue-sub 128 (pos p) (pos q)
-
-wraps-mul : (p q : ℕ) → p < 2 ^ 128 → q < 2 ^ 128 → u128.wrapping-mul p q ≡ residue 128 (pos p *ℤ pos q)
-wraps-mul p q lp lq = (λ i. sym (residue-pos 128 p lp) i * sym (residue-pos 128 q lq) i % 2 ^ 128) ∙ residue-mul 128 (pos p) (pos q)
 
 -- what is low in a result hangs on what is low in its operands
 module _ (w : ℕ) (wide : w ≤ 128) (p q y : ℕ) (lp : p < 2 ^ 128) (lq : q < 2 ^ 128) where
@@ -110,47 +131,29 @@ module _ (w : ℕ) (wide : w ≤ 128) (p q y : ℕ) (lp : p < 2 ^ 128) (lq : q <
 
   low-bits : (o : Binary) → isAny modularOps o ≡ true → (u : ℕ) → w ≤ u → Low o (ty.Bits u)
   unfolding evaluateBinary
-  low-bits bi.Add m u l e = ap some (from-bits _+ℤ_ u128.wrapping-add alike-add wraps-add w wide p q lp lq u l ∙ ap (λ (n : ℕ). n % 2 ^ w) (some-is e))
-  low-bits bi.Sub m u l e = ap some (from-bits _-ℤ_ u128.wrapping-sub alike-sub wraps-sub w wide p q lp lq u l ∙ ap (λ (n : ℕ). n % 2 ^ w) (some-is e))
-  low-bits bi.Mul m u l e = ap some (from-bits _*ℤ_ u128.wrapping-mul alike-mul wraps-mul w wide p q lp lq u l ∙ ap (λ (n : ℕ). n % 2 ^ w) (some-is e))
-  low-bits bi.And m u l e = ap some (bitwise bitAnd and-mod w p q ∙ sym (narrow (bitAnd p q) u w l) ∙ ap (λ (n : ℕ). n % 2 ^ w) (some-is e))
-  low-bits bi.Or m u l e = ap some (bitwise bitOr or-mod w p q ∙ sym (narrow (bitOr p q) u w l) ∙ ap (λ (n : ℕ). n % 2 ^ w) (some-is e))
-  low-bits bi.Xor m u l e = ap some (bitwise bitXor xor-mod w p q ∙ sym (narrow (bitXor p q) u w l) ∙ ap (λ (n : ℕ). n % 2 ^ w) (some-is e))
-  low-bits bi.ShiftLeft m u l e = absurd (false≢true m)
-  low-bits bi.ShiftRight m u l e = absurd (false≢true m)
-  low-bits bi.ArithmeticShiftRight m u l e = absurd (false≢true m)
-  low-bits bi.Equal m u l e = absurd (false≢true m)
-  low-bits bi.NotEqual m u l e = absurd (false≢true m)
-  low-bits bi.LessSigned m u l e = absurd (false≢true m)
-  low-bits bi.LessUnsigned m u l e = absurd (false≢true m)
-  low-bits bi.LessEqualSigned m u l e = absurd (false≢true m)
-  low-bits bi.LessEqualUnsigned m u l e = absurd (false≢true m)
-  low-bits bi.DivideSigned m u l e = absurd (false≢true m)
-  low-bits bi.RemainderSigned m u l e = absurd (false≢true m)
-  low-bits bi.DivideUnsigned m u l e = absurd (false≢true m)
-  low-bits bi.RemainderUnsigned m u l e = absurd (false≢true m)
+  low-bits =
+      of-any (λ o. (u : ℕ) → w ≤ u → Low o (ty.Bits u)) modularOps
+      (sums _+ℤ_ sum residue-add, (sums _-ℤ_ difference residue-sub, (sums _*ℤ_ product residue-mul, (bits bitAnd and-mod, (bits bitOr or-mod, (bits bitXor xor-mod, tt))))))
+    where
+      sums : (f : ℤ → ℤ → ℤ) (G : ℕ → ℕ → ℕ → ℕ) → Residues f G → (u : ℕ) → w ≤ u → some (G 128 p q % 2 ^ u) ≡ some y
+          → some (G 128 (p % 2 ^ w) (q % 2 ^ w) % 2 ^ w) ≡ some (y % 2 ^ w)
+      sums f G law u l e = ap some (from-bits f G law w wide p q lp lq u l ∙ ap (λ (n : ℕ). n % 2 ^ w) (some-is e))
+
+      bits : (F : ℕ → ℕ → ℕ) → Parts F → (u : ℕ) → w ≤ u → some (F p q % 2 ^ u) ≡ some y → some (F (p % 2 ^ w) (q % 2 ^ w) % 2 ^ w) ≡ some (y % 2 ^ w)
+      bits F a u l e = ap some (bitwise F a w p q ∙ sym (narrow (F p q) u w l) ∙ ap (λ (n : ℕ). n % 2 ^ w) (some-is e))
 
   low-integer : (o : Binary) → isAny modularOps o ≡ true → Low o ty.Integer
   unfolding evaluateBinary
-  low-integer bi.Add m e = ap some (checked _+ℤ_ u128.wrapping-add alike-add wraps-add w wide p q lp lq y e)
-  low-integer bi.Sub m e = ap some (checked _-ℤ_ u128.wrapping-sub alike-sub wraps-sub w wide p q lp lq y e)
-  low-integer bi.Mul m e = ap some (checked _*ℤ_ u128.wrapping-mul alike-mul wraps-mul w wide p q lp lq y e)
-  low-integer bi.And m e = ap some (bitwise bitAnd and-mod w p q ∙ ap (λ (n : ℕ). n % 2 ^ w) (some-is e))
-  low-integer bi.Or m e = ap some (bitwise bitOr or-mod w p q ∙ ap (λ (n : ℕ). n % 2 ^ w) (some-is e))
-  low-integer bi.Xor m e = ap some (bitwise bitXor xor-mod w p q ∙ ap (λ (n : ℕ). n % 2 ^ w) (some-is e))
-  low-integer bi.ShiftLeft m e = absurd (false≢true m)
-  low-integer bi.ShiftRight m e = absurd (false≢true m)
-  low-integer bi.ArithmeticShiftRight m e = absurd (false≢true m)
-  low-integer bi.Equal m e = absurd (false≢true m)
-  low-integer bi.NotEqual m e = absurd (false≢true m)
-  low-integer bi.LessSigned m e = absurd (false≢true m)
-  low-integer bi.LessUnsigned m e = absurd (false≢true m)
-  low-integer bi.LessEqualSigned m e = absurd (false≢true m)
-  low-integer bi.LessEqualUnsigned m e = absurd (false≢true m)
-  low-integer bi.DivideSigned m e = absurd (false≢true m)
-  low-integer bi.RemainderSigned m e = absurd (false≢true m)
-  low-integer bi.DivideUnsigned m e = absurd (false≢true m)
-  low-integer bi.RemainderUnsigned m e = absurd (false≢true m)
+  low-integer =
+      of-any (λ o. Low o ty.Integer) modularOps
+      (sums _+ℤ_ sum residue-add, (sums _-ℤ_ difference residue-sub, (sums _*ℤ_ product residue-mul, (bits bitAnd and-mod, (bits bitOr or-mod, (bits bitXor xor-mod, tt))))))
+    where
+      sums : (f : ℤ → ℤ → ℤ) (G : ℕ → ℕ → ℕ → ℕ) → Residues f G → checked (f (signed 128 p) (signed 128 q)) ≡ some y
+          → some (G 128 (p % 2 ^ w) (q % 2 ^ w) % 2 ^ w) ≡ some (y % 2 ^ w)
+      sums f G law e = ap some (from-checked f G law w wide p q lp lq y e)
+
+      bits : (F : ℕ → ℕ → ℕ) → Parts F → some (F p q) ≡ some y → some (F (p % 2 ^ w) (q % 2 ^ w) % 2 ^ w) ≡ some (y % 2 ^ w)
+      bits F a e = ap some (bitwise F a w p q ∙ ap (λ (n : ℕ). n % 2 ^ w) (some-is e))
 
   pub low-result : (o : Binary) → isAny modularOps o ≡ true → (s : ScalarType) → isWide s w ≡ true → Low o s
   low-result o m ty.Bool e = absurd (false≢true e)
@@ -198,42 +201,25 @@ module _ {ρ : Env} {g : List ℕ} (i : Inv ρ g) where
 
   view-from : (t : ScalarType) (k n : ℕ) → n < countOf g → Seen t n (viewFrom g t k n)
   view-from t zero n l = (l, refl)
-  view-from t (suc k) n l = by (refinedAt g n) refl (λ p b. view-from t k p b)
-    where
-      by : (r : Option ℕ) → refinedAt g n ≡ r → ((p : ℕ) → p < countOf g → Seen t p (viewFrom g t k p))
-          → Seen t n (given r (λ p. cond (sameType (typeAt g p) t) (same p) (viewFrom g t k p)) (source n))
-      by none e ih = (l, refl)
-      by (some p) e ih =
-          let d = refine-value n l p e in
-          let b : p < countOf g = (let q = d .0 in omega arith) in
-          by-test (Seen t n) (sameType (typeAt g p) t) (λ q. (b, same-type (typeAt g p) t q, d .1)) (λ q. further t n p (viewFrom g t k p) (d .1) (ih p b))
+  view-from t (suc k) n l =
+      by-given (Seen t n) (refinedAt g n)
+      (λ p e.
+      let d = refine-value n l p e in
+      let b : p < countOf g = (let q = d .0 in omega arith) in
+      by-test (Seen t n) (sameType (typeAt g p) t) (λ q. (b, same-type (typeAt g p) t q, d .1))
+      (λ q. further t n p (viewFrom g t k p) (d .1) (view-from t k p b)))
+      (λ e. (l, refl))
 
 -- ---- modular
 
 modular-typed : (o : Binary) (w : ℕ) → isAny modularOps o ≡ true → storedTyped o (ty.Bits w) (ty.Bits w) (ty.Bits w) ≡ true
-modular-typed bi.Add w e = rw (eq-eqb w w refl)
-modular-typed bi.Sub w e = rw (eq-eqb w w refl)
-modular-typed bi.Mul w e = rw (eq-eqb w w refl)
-modular-typed bi.And w e = rw (eq-eqb w w refl)
-modular-typed bi.Or w e = rw (eq-eqb w w refl)
-modular-typed bi.Xor w e = rw (eq-eqb w w refl)
-modular-typed bi.ShiftLeft w e = absurd (false≢true e)
-modular-typed bi.ShiftRight w e = absurd (false≢true e)
-modular-typed bi.ArithmeticShiftRight w e = absurd (false≢true e)
-modular-typed bi.Equal w e = absurd (false≢true e)
-modular-typed bi.NotEqual w e = absurd (false≢true e)
-modular-typed bi.LessSigned w e = absurd (false≢true e)
-modular-typed bi.LessUnsigned w e = absurd (false≢true e)
-modular-typed bi.LessEqualSigned w e = absurd (false≢true e)
-modular-typed bi.LessEqualUnsigned w e = absurd (false≢true e)
-modular-typed bi.DivideSigned w e = absurd (false≢true e)
-modular-typed bi.RemainderSigned w e = absurd (false≢true e)
-modular-typed bi.DivideUnsigned w e = absurd (false≢true e)
-modular-typed bi.RemainderUnsigned w e = absurd (false≢true e)
+modular-typed o w =
+    let same : both (sameType (ty.Bits w) (ty.Bits w)) (sameType (ty.Bits w) (ty.Bits w)) ≡ true = rw (eq-eqb w w refl) in
+    of-any (λ o. storedTyped o (ty.Bits w) (ty.Bits w) (ty.Bits w) ≡ true) modularOps (same, (same, (same, (same, (same, (same, tt)))))) o
 
 module _ {ρ : Env} {g : List ℕ} (i : Inv ρ g) (w : ℕ) (wide : w ≤ 128) where
   truncated-value : (a : ℕ) → unaryMeans (ty.Bits w) (un.Truncate w) (some a) ≡ some (a % 2 ^ w)
-  truncated-value a = truncate-valued w a ∙ typed-of (ty.Bits w) (a % 2 ^ w) (mod-lt a (pow-pos w))
+  truncated-value a = truncate-valued w a ∙ low-valued w a
 
   module _ (s : ℕ) (l : s < countOf g) (o : Binary) (a b : ℕ) (e : operationAt g s ≡ node.binary o a b) (m : isAny modularOps o ≡ true)
       (big : isWide (typeAt g s) w ≡ true) where
@@ -261,7 +247,7 @@ module _ {ρ : Env} {g : List ℕ} (i : Inv ρ g) (w : ℕ) (wide : w ≤ 128) w
         let f = low-result w wide (c .0) (d .0) y (value-pattern i a la (c .0) (c .1)) (value-pattern i b lb (d .0) (d .1)) o m (typeAt g s) big z in
         (λ k. binaryMeans (ty.Bits w) o (unaryMeans (ty.Bits w) (un.Truncate w) (c .1 k)) (unaryMeans (ty.Bits w) (un.Truncate w) (d .1 k)))
         ∙ (λ k. binaryMeans (ty.Bits w) o (truncated-value (c .0) k) (truncated-value (d .0) k))
-        ∙ ap (λ (k : Option ℕ). andThen k (ofType (ty.Bits w))) f ∙ typed-of (ty.Bits w) (y % 2 ^ w) (mod-lt y (pow-pos w)) ∙ ap some (sym is)
+        ∙ ap (λ (k : Option ℕ). andThen k (ofType (ty.Bits w))) f ∙ low-valued w y ∙ ap some (sym is)
 
     truncated-good : (t : Option ℕ) → t ≡ value ρ g s → Claim ρ g (ty.Bits w) (andThen t (valued (ty.Bits w))) (plan.truncated w o a b)
     truncated-good t q = (wide, la, lb, refl, modular-typed o w m, λ x r. low-covers x (ap (λ (k : Option ℕ). andThen k (valued (ty.Bits w))) (sym q) ∙ r))

@@ -2,74 +2,51 @@
 use mathlib.Core.Path.{_≡_, refl, sym, ap, _∙_, subst}
 use mathlib.Core.Bool.{Bool, true, false, cond, not, false≢true}
 use mathlib.Core.List.{List}
-use mathlib.Core.Logic.{⊎-elim}
 use mathlib.Core.Option.{Option, none, some}
 use Prim.Native.Nat.{ℕ, _+_, _-_, _%_, _^_, _≤_, _<_}
 use native.Mathlib.Nat.{add-comm, mul-comm, mod-lt, lt-of-le-of-lt}
 use native.Mathlib.Omega.{arith}
 use borrow.Author.Tests.{eq-eqb, ne-eqb, eqb-true, eqb-false}
 use lib.Bits.{and-comm, or-comm, xor-comm}
-use lib.Dec.{eqb, leb, lit<}
+use lib.Dec.{eqb, leb}
 use lib.IntN.{ℤ, pos, negℤ, _+ℤ_, _-ℤ_, +ℤ-comm, *ℤ-comm, +ℤ-assoc, negℤ-+ℤ}
 use lib.Pow.{pow-pos}
-use Rattle.word.specs.Value.{signed, residue, fits, fitted, only, provided, isPowerOfTwo}
-use Rattle.word.proofs.Integer.{residue-lt, residue-pos, residue-sub, signed-residue}
-use Rattle.range.specs.Interval.{both, one}
+use Rattle.word.specs.Value.{signed, residue, fitted, only, isPowerOfTwo}
+use Rattle.word.proofs.Integer.{residue-lt, residue-pos, residue-add, residue-sub}
+use Rattle.range.specs.Interval.{both}
 use Rattle.range.specs.declared.ScalarType.{ScalarType}
 use Rattle.range.specs.declared.ScalarType.the-variants as ty
-use Rattle.range.proofs.Sound.{tests, either}
+use Rattle.range.proofs.Sound.{tests}
+use Rattle.range.proofs.Answers.{none-some, some-is}
 use Rattle.evaluate.specs.Evaluate.{fromBool, mapped, byType, reduced, evaluateBinary}
 use Rattle.evaluate.specs.Operator.{typeWidth}
 use Rattle.evaluate.specs.U128 as u128
 use Rattle.evaluate.specs.declared.Binary.{Binary}
 use Rattle.evaluate.specs.declared.Binary.the-variants as bi
-use Rattle.evaluate.proofs.Fields.{narrow, residue-narrow, fits-below}
+use Rattle.evaluate.proofs.Fields.{narrow}
 use Rattle.bits.proofs.Sums.{shift-to, shift-from}
 use Rattle.graph.specs.Layout.{countOf}
-use Rattle.graph.specs.Node as node
 use Rattle.graph.specs.Node.{typeAt}
 use Rattle.graph.specs.Insert.{literal}
 use Rattle.fold.specs.Operator.{commutative, equalities}
-use Rattle.fold.specs.Shape.{given, sameType, sameBinary, isAny, mask, Chain, chainAt}
+use Rattle.fold.specs.Shape.{sameType, sameBinary, isAny, mask, Chain, chainAt}
 use Rattle.plan.specs.Plan as plan
 use Rattle.plan.specs.Plan.{Plan}
-use Rattle.plan_binary.specs.Binary.{offsetCompared, offsetTyped, offsetPlan, mergedPlan, orPlan, lessMore, sumTwice, sumPlan}
+use Rattle.plan_binary.specs.Binary.{offsetCompared, offsetTyped, offsetPlan, mergedPlan, lessMore, sumPlan}
 use Rattle.build.specs.Build.{binary}
 use Rattle.native.specs.Typing.{isNumber, sameTypes, arithmetic}
 use Rattle.meaning.specs.Value.{Env, size, ofType, andThen, binaryMeans, value}
-use Rattle.meaning.proofs.Values.{none-some, some-is, typed-is, then-is}
+use Rattle.meaning.proofs.Modular.{Residues, sum, difference, checked, checked-is, alike, in-bits, sub-low}
+use Rattle.meaning.proofs.Answers.{binary-is, of-any, by-test, Each, each-none, each-some, each-provided, each-given, each-or}
 use Rattle.meaning.proofs.Invariant.{storedTyped, Inv}
 use Rattle.meaning.proofs.Tree.{Callable}
 use Rattle.meaning.proofs.Constants.{pattern, reduced-same}
-use Rattle.meaning.proofs.Plans.{ByConstant, Claim}
-use Rattle.meaning.proofs.Views.{same-type, value-small, value-pattern}
-use Rattle.meaning.proofs.Modular.{alike-add, alike-sub, wraps-add, wraps-sub}
+use Rattle.meaning.proofs.Plans.{ByConstant, Claim, bits-number}
+use Rattle.meaning.proofs.Views.{same-type, value-small, value-pattern, arithmetic-types}
 use Rattle.meaning.proofs.Compared.{remainder-power}
-use Rattle.meaning.proofs.Field.{none-has, some-has, means-at, below-at, typed-at, literal-value, operands, binary-is, eqb-sym, linked}
+use Rattle.meaning.proofs.Field.{literal-value, operands, eqb-sym, linked, chain-here, chain-typed, chain-means, literal-below}
 
 -- ---- operands that change places
-
-by-commutative : (P : Binary → Type 0) → P bi.Add → P bi.Mul → P bi.And → P bi.Or → P bi.Xor → P bi.Equal → P bi.NotEqual → (o : Binary)
-    → isAny commutative o ≡ true → P o
-by-commutative P add mul and or xor equal other bi.Add e = add
-by-commutative P add mul and or xor equal other bi.Sub e = absurd (false≢true e)
-by-commutative P add mul and or xor equal other bi.Mul e = mul
-by-commutative P add mul and or xor equal other bi.And e = and
-by-commutative P add mul and or xor equal other bi.Or e = or
-by-commutative P add mul and or xor equal other bi.Xor e = xor
-by-commutative P add mul and or xor equal other bi.ShiftLeft e = absurd (false≢true e)
-by-commutative P add mul and or xor equal other bi.ShiftRight e = absurd (false≢true e)
-by-commutative P add mul and or xor equal other bi.ArithmeticShiftRight e = absurd (false≢true e)
-by-commutative P add mul and or xor equal other bi.Equal e = equal
-by-commutative P add mul and or xor equal other bi.NotEqual e = other
-by-commutative P add mul and or xor equal other bi.LessSigned e = absurd (false≢true e)
-by-commutative P add mul and or xor equal other bi.LessUnsigned e = absurd (false≢true e)
-by-commutative P add mul and or xor equal other bi.LessEqualSigned e = absurd (false≢true e)
-by-commutative P add mul and or xor equal other bi.LessEqualUnsigned e = absurd (false≢true e)
-by-commutative P add mul and or xor equal other bi.DivideSigned e = absurd (false≢true e)
-by-commutative P add mul and or xor equal other bi.RemainderSigned e = absurd (false≢true e)
-by-commutative P add mul and or xor equal other bi.DivideUnsigned e = absurd (false≢true e)
-by-commutative P add mul and or xor equal other bi.RemainderUnsigned e = absurd (false≢true e)
 
 both-swap : (a b : Bool) → both a b ≡ true → both b a ≡ true
 both-swap a b e = let p = tests a b e in (λ z. both (p .1 z) (p .0 z))
@@ -92,7 +69,7 @@ module _ (a b t : ScalarType) where
   typed-swap : (o : Binary) → isAny commutative o ≡ true → TypedSwap o
   typed-swap =
       let bits = both-swap (sameType a t) (sameType b t) in
-      by-commutative TypedSwap arithmetic-swap arithmetic-swap bits bits bits comparison-swap comparison-swap
+      of-any TypedSwap commutative (arithmetic-swap, (arithmetic-swap, (bits, (bits, (bits, (comparison-swap, (comparison-swap, tt)))))))
 
 module _ (t : ScalarType) (a b : ℕ) where
   abbrev ValueSwap : Binary → Type 0
@@ -101,11 +78,22 @@ module _ (t : ScalarType) (a b : ℕ) where
   value-swap : (o : Binary) → isAny commutative o ≡ true → ValueSwap o
   unfolding evaluateBinary
   value-swap =
-      by-commutative ValueSwap
-      (λ z. mapped (reduced t) (byType t (mapped (residue 128) (fitted (+ℤ-comm (signed 128 b) (signed 128 a) z))) (some (add-comm b a z % 2 ^ 128))))
-      (λ z. mapped (reduced t) (byType t (mapped (residue 128) (fitted (*ℤ-comm (signed 128 b) (signed 128 a) z))) (some (mul-comm b a z % 2 ^ 128))))
-      (λ z. some (reduced t (and-comm b a z))) (λ z. some (reduced t (or-comm b a z))) (λ z. some (reduced t (xor-comm b a z)))
-      (λ z. some (reduced t (fromBool (eqb-sym b a z)))) (λ z. some (reduced t (fromBool (not (eqb-sym b a z)))))
+      of-any ValueSwap commutative (
+        λ z. mapped (reduced t) (byType t (mapped (residue 128) (fitted (+ℤ-comm (signed 128 b) (signed 128 a) z))) (some (add-comm b a z % 2 ^ 128))),
+        (
+          λ z. mapped (reduced t) (byType t (mapped (residue 128) (fitted (*ℤ-comm (signed 128 b) (signed 128 a) z))) (some (mul-comm b a z % 2 ^ 128))),
+          (
+            λ z. some (reduced t (and-comm b a z)),
+            (
+              λ z. some (reduced t (or-comm b a z)),
+              (
+                λ z. some (reduced t (xor-comm b a z)),
+                (λ z. some (reduced t (fromBool (eqb-sym b a z))), (λ z. some (reduced t (fromBool (not (eqb-sym b a z)))), tt)),
+              ),
+            ),
+          ),
+        ),
+      )
 
 module _ {ρ : Env} {g : List ℕ} (i : Inv ρ g) (t : ScalarType) (o : Binary) (l r : ℕ) (k : Callable g (binary t o l r)) where
   pub swapped-claim : isAny commutative o ≡ true → Claim ρ g t (binaryMeans t o (value ρ g l) (value ρ g r)) (plan.binary t o r l)
@@ -119,44 +107,34 @@ module _ {ρ : Env} {g : List ℕ} (i : Inv ρ g) (t : ScalarType) (o : Binary) 
 
 -- ---- sums of sums
 
--- a checked integer as a pattern
-abbrev checked : ℤ → Option ℕ
-checked z = mapped (reduced ty.Integer) (mapped (residue 128) (fitted z))
+-- a sum, a difference or a product, by the type
+abbrev arithmetics : (ℤ → ℤ → ℤ) → (ℕ → ℕ → ℕ → ℕ) → ScalarType → ℕ → ℕ → Option ℕ
+arithmetics f G t x y = mapped (reduced t) (byType t (mapped (residue 128) (fitted (f (signed 128 x) (signed 128 y)))) (some (G 128 x y)))
 
-checked-is : (z : ℤ) (v : ℕ) → checked z ≡ some v → (v ≡ residue 128 z) × (signed 128 v ≡ z)
-checked-is z v e = by (fits z) refl e
-  where
-    by : (b : Bool) → fits z ≡ b → mapped (reduced ty.Integer) (mapped (residue 128) (only b z)) ≡ some v → (v ≡ residue 128 z) × (signed 128 v ≡ z)
-    by true q e =
-        let p : v ≡ residue 128 z = sym (some-is e) in
-        (p, ap (signed 128) p ∙ signed-residue 128 z (lit< tt) (fits-below z .0 q))
-    by false q e = absurd (none-some e)
+-- f by c and then by d is f by their sum
+module _ (f : ℤ → ℤ → ℤ) (G : ℕ → ℕ → ℕ → ℕ) (law : Residues f G) (assoc : (x c d : ℤ) → f (f x c) d ≡ f x (c +ℤ d)) (x c d v k : ℕ) where
+  merged-bits : (w : ℕ) → w ≤ 128 → x < 2 ^ 128 → c < 2 ^ 128 → d < 2 ^ 128 → v < 2 ^ w → k < 2 ^ w → G 128 x c % 2 ^ w ≡ v
+      → u128.wrapping-add c d % 2 ^ w ≡ k → G 128 v d % 2 ^ w ≡ G 128 x k % 2 ^ w
+  merged-bits w wide lx lc ld lv lk ev ek =
+      let pv : residue w (pos v) ≡ residue w (f (pos x) (pos c)) = residue-pos w v lv ∙ sym ev ∙ in-bits f G law w wide x c lx lc in
+      let pk : residue w (pos k) ≡ residue w (pos c +ℤ pos d) = residue-pos w k lk ∙ sym ek ∙ in-bits _+ℤ_ sum residue-add w wide c d lc ld in
+      in-bits f G law w wide v d (pattern (ty.Bits w) v wide lv) ld ∙ alike f G law w (pos v) (pos d) (f (pos x) (pos c)) (pos d) pv refl
+      ∙ ap (residue w) (assoc (pos x) (pos c) (pos d)) ∙ sym (alike f G law w (pos x) (pos k) (pos x) (pos c +ℤ pos d) refl pk)
+      ∙ sym (in-bits f G law w wide x k lx (pattern (ty.Bits w) k wide lk))
 
--- f is the sum or the difference, and F the same modulo 2 ^ 128
-module _ (f : ℤ → ℤ → ℤ) (F : ℕ → ℕ → ℕ)
-    (alike : (k : ℕ) (x y u v : ℤ) → residue k x ≡ residue k u → residue k y ≡ residue k v → residue k (f x y) ≡ residue k (f u v))
-    (wraps : (p q : ℕ) → p < 2 ^ 128 → q < 2 ^ 128 → F p q ≡ residue 128 (f (pos p) (pos q))) where
-  in-bits : (w : ℕ) → w ≤ 128 → (p q : ℕ) → p < 2 ^ 128 → q < 2 ^ 128 → F p q % 2 ^ w ≡ residue w (f (pos p) (pos q))
-  in-bits w wide p q lp lq = ap (λ (n : ℕ). n % 2 ^ w) (wraps p q lp lq) ∙ residue-narrow (f (pos p) (pos q)) 128 w wide
+  merged-integer : checked (f (signed 128 x) (signed 128 c)) ≡ some v → checked (signed 128 c +ℤ signed 128 d) ≡ some k
+      → checked (f (signed 128 v) (signed 128 d)) ≡ checked (f (signed 128 x) (signed 128 k))
+  merged-integer ev ek =
+      let pv = checked-is (f (signed 128 x) (signed 128 c)) v ev .1 in
+      let pk = checked-is (signed 128 c +ℤ signed 128 d) k ek .1 in
+      ap checked
+      ((λ z. f (pv z) (signed 128 d)) ∙ assoc (signed 128 x) (signed 128 c) (signed 128 d) ∙ (λ z. f (signed 128 x) (sym pk z)))
 
-  module _ (assoc : (x c d : ℤ) → f (f x c) d ≡ f x (c +ℤ d)) (x c d v k : ℕ) where
-    merged-bits : (w : ℕ) → w ≤ 128 → x < 2 ^ 128 → c < 2 ^ 128 → d < 2 ^ 128 → v < 2 ^ w → k < 2 ^ w → F x c % 2 ^ w ≡ v
-        → u128.wrapping-add c d % 2 ^ w ≡ k → F v d % 2 ^ w ≡ F x k % 2 ^ w
-    merged-bits w wide lx lc ld lv lk ev ek =
-        let pv : residue w (pos v) ≡ residue w (f (pos x) (pos c)) = residue-pos w v lv ∙ sym ev ∙ in-bits w wide x c lx lc in
-        let pk : residue w (pos k) ≡ residue w (pos c +ℤ pos d)
-        = residue-pos w k lk ∙ sym ek ∙ ap (λ (n : ℕ). n % 2 ^ w) (wraps-add c d lc ld) ∙ residue-narrow (pos c +ℤ pos d) 128 w wide in
-        in-bits w wide v d (pattern (ty.Bits w) v wide lv) ld ∙ alike w (pos v) (pos d) (f (pos x) (pos c)) (pos d) pv refl
-        ∙ ap (residue w) (assoc (pos x) (pos c) (pos d)) ∙ sym (alike w (pos x) (pos k) (pos x) (pos c +ℤ pos d) refl pk)
-        ∙ sym (in-bits w wide x k lx (pattern (ty.Bits w) k wide lk))
-
-    merged-integer : checked (f (signed 128 x) (signed 128 c)) ≡ some v → checked (signed 128 c +ℤ signed 128 d) ≡ some k
-        → checked (f (signed 128 v) (signed 128 d)) ≡ checked (f (signed 128 x) (signed 128 k))
-    merged-integer ev ek =
-        let pv = checked-is (f (signed 128 x) (signed 128 c)) v ev .1 in
-        let pk = checked-is (signed 128 c +ℤ signed 128 d) k ek .1 in
-        ap checked
-        ((λ z. f (pv z) (signed 128 d)) ∙ assoc (signed 128 x) (signed 128 c) (signed 128 d) ∙ (λ z. f (signed 128 x) (sym pk z)))
+  merges : (t : ScalarType) → isNumber t ≡ true → typeWidth t ≤ 128 → x < 2 ^ 128 → c < 2 ^ 128 → d < 2 ^ 128 → v < size t → k < size t
+      → arithmetics f G t x c ≡ some v → arithmetics _+ℤ_ sum t c d ≡ some k → arithmetics f G t v d ≡ arithmetics f G t x k
+  merges ty.Bool n wide lx lc ld lv lk ev ek = absurd (false≢true n)
+  merges (ty.Bits w) n wide lx lc ld lv lk ev ek = ap some (merged-bits w wide lx lc ld lv lk (some-is ev) (some-is ek))
+  merges ty.Integer n wide lx lc ld lv lk ev ek = merged-integer ev ek
 
 less-assoc : (x c d : ℤ) → x -ℤ c -ℤ d ≡ x -ℤ (c +ℤ d)
 less-assoc x c d = +ℤ-assoc x (negℤ c) (negℤ d) ∙ ap (λ (z : ℤ). x +ℤ z) (sym (negℤ-+ℤ c d))
@@ -177,25 +155,13 @@ Merges o t = (x c d v k : ℕ) → x < 2 ^ 128 → c < 2 ^ 128 → d < 2 ^ 128 �
 
 add-merges : (t : ScalarType) → isNumber t ≡ true → typeWidth t ≤ 128 → Merges bi.Add t
 unfolding evaluateBinary
-add-merges ty.Bool n wide x c d v k lx lc ld lv lk ev ek = absurd (false≢true n)
-add-merges (ty.Bits w) n wide x c d v k lx lc ld lv lk ev ek =
-    ap some (merged-bits _+ℤ_ u128.wrapping-add alike-add wraps-add +ℤ-assoc x c d v k w wide lx lc ld lv lk (some-is ev) (some-is ek))
-add-merges ty.Integer n wide x c d v k lx lc ld lv lk ev ek = merged-integer _+ℤ_ u128.wrapping-add alike-add wraps-add +ℤ-assoc x c d v k ev ek
+add-merges t n wide x c d v k = merges _+ℤ_ sum residue-add +ℤ-assoc x c d v k t n wide
 
 sub-merges : (t : ScalarType) → isNumber t ≡ true → typeWidth t ≤ 128 → Merges bi.Sub t
 unfolding evaluateBinary
-sub-merges ty.Bool n wide x c d v k lx lc ld lv lk ev ek = absurd (false≢true n)
-sub-merges (ty.Bits w) n wide x c d v k lx lc ld lv lk ev ek =
-    ap some (merged-bits _-ℤ_ u128.wrapping-sub alike-sub wraps-sub less-assoc x c d v k w wide lx lc ld lv lk (some-is ev) (some-is ek))
-sub-merges ty.Integer n wide x c d v k lx lc ld lv lk ev ek = merged-integer _-ℤ_ u128.wrapping-sub alike-sub wraps-sub less-assoc x c d v k ev ek
+sub-merges t n wide x c d v k = merges _-ℤ_ difference residue-sub less-assoc x c d v k t n wide
 
 -- ---- a sum or a difference by a constant, as a node
-
-arithmetic-is : (a b t : ScalarType) → arithmetic a b t ≡ true → (isNumber t ≡ true) × (a ≡ t) × (b ≡ t)
-arithmetic-is a b t e =
-    let p = tests (isNumber t) (sameTypes a b t) e in
-    let q = tests (sameType a t) (sameType b t) (p .1) in
-    (p .0, same-type a t (q .0), same-type b t (q .1))
 
 -- an operator with the types of sums
 abbrev Arithmetic : Binary → Type 0
@@ -209,27 +175,16 @@ record Link (ρ : Env) (g : List ℕ) (n : ℕ) (c : Chain) (t : ScalarType) : T
   means : (y : ℕ) → value ρ g n ≡ some y → (x : ℕ) × (value ρ g (c .base) ≡ some x) × (evaluateBinary (c .op) t x (c .value) ≡ some y)
 
 module _ {ρ : Env} {g : List ℕ} (i : Inv ρ g) where
-  literal-below : (n c : ℕ) (t : ScalarType) → n < countOf g → typeAt g n ≡ t → literal g n ≡ some c → c < size t
-  literal-below n c t l q e = subst (λ (s : ScalarType). c < size s) q (value-small i n l c (literal-value ρ g i n c l e))
-
   link : (n : ℕ) (c : Chain) (t : ScalarType) → n < countOf g → typeAt g n ≡ t → chainAt g n ≡ some c → Arithmetic (c .op) → Link ρ g n c t
   link n c t l q e a =
       let s = linked g n c e in
-      let o = node.binary (c .op) (c .base) (s .constant) in
-      let b = below-at ρ g i n l o (s .operation) in
-      let p = arithmetic-is (typeAt g (c .base)) (typeAt g (s .constant)) (typeAt g n) (sym (a _ _ _) ∙ typed-at ρ g i n l o (s .operation)) in
+      let h = chain-here i n l c s in
+      let p = arithmetic-types (typeAt g (c .base)) (typeAt g (s .constant)) (typeAt g n) (sym (a _ _ _) ∙ chain-typed i n l c s) in
       record {
-        here = omega arith;
+        here = h .0;
         type = p .1 ∙ q;
-        small = literal-below (s .constant) (c .value) t (omega arith) (p .2 ∙ q) (s .has);
-        means = λ y ey.
-            let d = operands ρ g (typeAt g n) (c .op) (c .base) (s .constant) y (means-at ρ g i n l y ey o (s .operation)) in
-            let h = then-is (evaluateBinary (c .op) (typeAt g n) (d .x) (d .y)) (ofType (typeAt g n)) y (d .means) in
-            let v : c .value ≡ d .y = some-is (sym (literal-value ρ g i (s .constant) (c .value) (omega arith) (s .has)) ∙ d .right) in (
-              d .x,
-              d .left,
-              (λ z. evaluateBinary (c .op) (sym q z) (d .x) (v z)) ∙ h .1 ∙ ap some (sym (typed-is (typeAt g n) (h .0) y (h .2) .0)),
-            );
+        small = literal-below i (s .constant) (c .value) t (h .1) (p .2 ∙ q) (s .has);
+        means = λ y ey. let d = chain-means i n l c s y ey in (d .0, d .1, (λ z. evaluateBinary (c .op) (sym q z) (d .0) (c .value)) ∙ d .2);
       }
 
 -- ---- a remainder or a sum by a constant
@@ -259,7 +214,7 @@ module _ {ρ : Env} {g : List ℕ} (i : Inv ρ g) (t : ScalarType) (l r c : ℕ)
   remainder-claim : Callable g (binary t bi.RemainderUnsigned l r) → isPowerOfTwo c ≡ true
       → Claim ρ g t (means bi.RemainderUnsigned) (plan.constantBinary t (c - 1) t bi.And l)
   remainder-claim k e =
-      let p = arithmetic-is (typeAt g l) (typeAt g r) t (k .3) in
+      let p = arithmetic-types (typeAt g l) (typeAt g r) t (k .3) in
       let b : c < size t = literal-below i r c t (k .2) (p .2) lit in
       by-constant bi.RemainderUnsigned bi.And l (c - 1) k (k .1)
       ((λ z. both (sameType (typeAt g l) t) (sameType (sym (p .2) z) t)) ∙ tests (isNumber t) (sameTypes (typeAt g l) (typeAt g r) t) (k .3) .1)
@@ -268,7 +223,7 @@ module _ {ρ : Env} {g : List ℕ} (i : Inv ρ g) (t : ScalarType) (l r c : ℕ)
   merged : (o : Binary) (h : Chain) (v : ℕ) → Callable g (binary t o l r) → Arithmetic o → (isNumber t ≡ true → typeWidth t ≤ 128 → Merges o t)
       → chainAt g l ≡ some h → h .op ≡ o → evaluateBinary bi.Add t (h .value) c ≡ some v → ByConstant ρ g t (means o) t v t o (h .base)
   merged o h v k a law e q ev =
-      let p = arithmetic-is (typeAt g l) (typeAt g r) t (sym (a _ _ _) ∙ k .3) in
+      let p = arithmetic-types (typeAt g l) (typeAt g r) t (sym (a _ _ _) ∙ k .3) in
       let s = link i l h t (k .1) (p .1) e (subst Arithmetic (sym q) a) in
       let small = sum-small t (h .value) c v (p .0) ev in
       by-constant o o (h .base) v k (s .here) ((λ z. storedTyped o ((s .type ∙ sym (p .1)) z) (sym (p .2) z) t) ∙ k .3) small
@@ -294,8 +249,8 @@ module _ {ρ : Env} {g : List ℕ} (i : Inv ρ g) (t : ScalarType) (l r c : ℕ)
   sub-claim h p k e q = by (evaluateBinary bi.Add t (h .value) c) refl
     where
       by : (v : Option ℕ) → evaluateBinary bi.Add t (h .value) c ≡ v → lessMore t (h .base) v ≡ some p → Claim ρ g t (means bi.Sub) p
-      by none d f = absurd (none-has f)
-      by (some v) d f = subst (Claim ρ g t (means bi.Sub)) (some-has f) (merged bi.Sub h v k (λ a b s. refl) (sub-merges t) e q d)
+      by none d f = absurd (none-some f)
+      by (some v) d f = subst (Claim ρ g t (means bi.Sub)) (some-is f) (merged bi.Sub h v k (λ a b s. refl) (sub-merges t) e q d)
 
 -- ---- sums compared with constants
 
@@ -311,43 +266,32 @@ module _ (w x c b : ℕ) (wide : w ≤ 128) (lx : x < 2 ^ w) (lc : c < 2 ^ w) (l
   sum-low : (p : ℕ) → u128.wrapping-add p c % 2 ^ w ≡ (p + c) % 2 ^ w
   sum-low p = narrow (p + c) 128 w wide
 
-  less-low : (p : ℕ) → p < 2 ^ w → u128.wrapping-sub p c % 2 ^ w ≡ (p + (2 ^ w - c)) % 2 ^ w
-  less-low p lp =
-      in-bits _-ℤ_ u128.wrapping-sub alike-sub wraps-sub w wide p c (pattern (ty.Bits w) p wide lp) (pattern (ty.Bits w) c wide lc)
-      ∙ sym (residue-sub w (pos p) (pos c)) ∙ (λ z. (residue-pos w p lp z + (2 ^ w - residue-pos w c lc z)) % 2 ^ w)
-
   add-compared : eqb (u128.wrapping-add x c % 2 ^ w) b ≡ eqb x (u128.wrapping-sub b c % 2 ^ w)
   add-compared =
       (λ z. eqb (sum-low x z) b)
       ∙ eqb-alike ((x + c) % 2 ^ w) b x ((b + (2 ^ w - c)) % 2 ^ w) (shift-to x c b (2 ^ w) lx lc lb) (shift-from x c b (2 ^ w) lx lc lb)
-      ∙ (λ z. eqb x (sym (less-low b lb) z))
+      ∙ (λ z. eqb x (sym (sub-low w b c wide lb lc) z))
 
   sub-compared : eqb (u128.wrapping-sub x c % 2 ^ w) b ≡ eqb x (u128.wrapping-add b c % 2 ^ w)
   sub-compared =
-      (λ z. eqb (less-low x lx z) b)
+      (λ z. eqb (sub-low w x c wide lx lc z) b)
       ∙ eqb-alike ((x + (2 ^ w - c)) % 2 ^ w) b x ((b + c) % 2 ^ w) (λ e. sym (shift-from b c x (2 ^ w) lb lc lx (sym e)))
       (λ e. sym (shift-to b c x (2 ^ w) lb lc lx (sym e)))
       ∙ (λ z. eqb x (sym (sum-low b) z))
-
-by-equality : (P : Binary → Type 0) → P bi.Equal → P bi.NotEqual → (o : Binary) → isAny equalities o ≡ true → P o
-by-equality P equal other o e =
-    ⊎-elim (λ q. subst P (sym (binary-is o bi.Equal q)) equal)
-    (λ q. ⊎-elim (λ h. subst P (sym (binary-is o bi.NotEqual h)) other) (λ h. absurd (false≢true h)) (either (sameBinary o bi.NotEqual) false q))
-    (either (sameBinary o bi.Equal) (one (sameBinary o bi.NotEqual) false) e)
 
 -- both operands are of one type
 equality-typed : (a b t : ScalarType) (o : Binary) → isAny equalities o ≡ true → storedTyped o a b t ≡ true → a ≡ b
 equality-typed a b t =
     let same : both (sameType t ty.Bool) (sameType a b) ≡ true → a ≡ b = λ e. same-type a b (tests (sameType t ty.Bool) (sameType a b) e .1) in
-    by-equality (λ (o : Binary). storedTyped o a b t ≡ true → a ≡ b) same same
+    of-any (λ (o : Binary). storedTyped o a b t ≡ true → a ≡ b) equalities (same, (same, tt))
 
 -- the comparison is all that counts
-equality-value : (t : ScalarType) (a b x y : ℕ) → eqb a b ≡ eqb x y → (o : Binary) → isAny equalities o ≡ true
+pub equality-value : (t : ScalarType) (a b x y : ℕ) → eqb a b ≡ eqb x y → (o : Binary) → isAny equalities o ≡ true
     → evaluateBinary o t a b ≡ evaluateBinary o t x y
 unfolding evaluateBinary
 equality-value t a b x y e =
-    by-equality (λ (o : Binary). evaluateBinary o t a b ≡ evaluateBinary o t x y) (λ z. some (reduced t (fromBool (e z))))
-    (λ z. some (reduced t (fromBool (not (e z)))))
+    of-any (λ (o : Binary). evaluateBinary o t a b ≡ evaluateBinary o t x y) equalities
+    (λ z. some (reduced t (fromBool (e z))), (λ z. some (reduced t (fromBool (not (e z)))), tt))
 
 -- an operator by a constant of Bits(w), and the constant that its base is compared with
 abbrev Shifts : Binary → ℕ → ℕ → ℕ → ℕ → Type 0
@@ -371,36 +315,26 @@ module _ {ρ : Env} {g : List ℕ} (i : Inv ρ g) (t : ScalarType) (o : Binary) 
   renamed u p e f = subst (λ (q : Binary). Claim ρ g t (asked q) p) (sym e) (f (subst (λ (q : Binary). Callable g (binary t q l r)) e k))
 
   pub sum-claim : (c : ℕ) → literal g r ≡ some c → (p : Plan) → sumPlan g t o l c ≡ some p → Claim ρ g t (binaryMeans t o (value ρ g l) (value ρ g r)) p
-  sum-claim c lit p = first (both (sameBinary o bi.RemainderUnsigned) (isPowerOfTwo c)) refl
-    where
-      less : (h : Chain) → chainAt g l ≡ some h → (b : Bool) → both (sameBinary o bi.Sub) (sameBinary (h .op) bi.Sub) ≡ b
-          → provided b (lessMore t (h .base) (evaluateBinary bi.Add t (h .value) c)) ≡ some p → Claim ρ g t (asked o) p
-      less h d true q e =
-          let s = tests (sameBinary o bi.Sub) (sameBinary (h .op) bi.Sub) q in
-          renamed bi.Sub p (binary-is o bi.Sub (s .0)) (λ n. sub-claim i t l r c lit h p n d (binary-is (h .op) bi.Sub (s .1)) e)
-      less h d false q e = absurd (none-has e)
-
-      more : (h : Chain) → chainAt g l ≡ some h → (b : Bool) → both (sameBinary o bi.Add) (sameBinary (h .op) bi.Add) ≡ b
-          → cond b (some (mergedPlan t bi.Add (h .base) (evaluateBinary bi.Add t (h .value) c)))
-          (provided (both (sameBinary o bi.Sub) (sameBinary (h .op) bi.Sub)) (lessMore t (h .base) (evaluateBinary bi.Add t (h .value) c)))
-          ≡ some p → Claim ρ g t (asked o) p
-      more h d true q e =
-          let s = tests (sameBinary o bi.Add) (sameBinary (h .op) bi.Add) q in
-          renamed bi.Add p (binary-is o bi.Add (s .0))
-          (λ n. subst (Claim ρ g t (asked bi.Add)) (some-has e) (add-claim i t l r c lit h n d (binary-is (h .op) bi.Add (s .1))))
-      more h d false q e = less h d (both (sameBinary o bi.Sub) (sameBinary (h .op) bi.Sub)) refl e
-
-      next : (h : Option Chain) → chainAt g l ≡ h → given h (sumTwice t o c) none ≡ some p → Claim ρ g t (asked o) p
-      next none d e = absurd (none-has e)
-      next (some h) d e = more h d (both (sameBinary o bi.Add) (sameBinary (h .op) bi.Add)) refl e
-
-      first : (b : Bool) → both (sameBinary o bi.RemainderUnsigned) (isPowerOfTwo c) ≡ b
-          → orPlan (only b (plan.constantBinary t (c - 1) t bi.And l)) (given (chainAt g l) (sumTwice t o c) none) ≡ some p → Claim ρ g t (asked o) p
-      first true q e =
-          let s = tests (sameBinary o bi.RemainderUnsigned) (isPowerOfTwo c) q in
-          renamed bi.RemainderUnsigned p (binary-is o bi.RemainderUnsigned (s .0))
-          (λ n. subst (Claim ρ g t (asked bi.RemainderUnsigned)) (some-has e) (remainder-claim i t l r c lit n (s .1)))
-      first false q e = next (chainAt g l) refl e
+  sum-claim c lit =
+      each-or (Claim ρ g t (asked o)) _
+      (each-provided (Claim ρ g t (asked o)) (both (sameBinary o bi.RemainderUnsigned) (isPowerOfTwo c))
+      (λ q.
+      let s = tests (sameBinary o bi.RemainderUnsigned) (isPowerOfTwo c) q in
+      each-some (Claim ρ g t (asked o)) _
+      (renamed bi.RemainderUnsigned (plan.constantBinary t (c - 1) t bi.And l) (binary-is o bi.RemainderUnsigned (s .0)) (λ n. remainder-claim i t l r c lit n (s .1)))))
+      (each-given (Claim ρ g t (asked o)) (chainAt g l)
+      (λ h d.
+      by-test (Each (Claim ρ g t (asked o))) (both (sameBinary o bi.Add) (sameBinary (h .op) bi.Add))
+      (λ q.
+      let s = tests (sameBinary o bi.Add) (sameBinary (h .op) bi.Add) q in
+      each-some (Claim ρ g t (asked o)) _
+      (renamed bi.Add (mergedPlan t bi.Add (h .base) (evaluateBinary bi.Add t (h .value) c)) (binary-is o bi.Add (s .0))
+      (λ n. add-claim i t l r c lit h n d (binary-is (h .op) bi.Add (s .1)))))
+      (λ q.
+      each-provided (Claim ρ g t (asked o)) (both (sameBinary o bi.Sub) (sameBinary (h .op) bi.Sub))
+      (λ b p e.
+      let s = tests (sameBinary o bi.Sub) (sameBinary (h .op) bi.Sub) b in
+      renamed bi.Sub p (binary-is o bi.Sub (s .0)) (λ n. sub-claim i t l r c lit h p n d (binary-is (h .op) bi.Sub (s .1)) e)))))
 
   module _ (eq : isAny equalities o ≡ true) (b : ℕ) (lit : literal g r ≡ some b) (w : ℕ) (tl : typeAt g l ≡ ty.Bits w) (c : Chain) (e : chainAt g l ≡ some c) where
     tr : typeAt g r ≡ ty.Bits w
@@ -414,7 +348,7 @@ module _ {ρ : Env} {g : List ℕ} (i : Inv ρ g) (t : ScalarType) (o : Binary) 
     shifted v a law =
         let s = link i l c (ty.Bits w) (k .1) tl e a in
         let lb : b < 2 ^ w = literal-below i r b (ty.Bits w) (k .2) tr lit in (
-          record { width = wide; small = mod-lt v (pow-pos w) },
+          bits-number wide v,
           refl,
           k .0,
           s .here,
@@ -431,53 +365,34 @@ module _ {ρ : Env} {g : List ℕ} (i : Inv ρ g) (t : ScalarType) (o : Binary) 
         )
 
     compared-claim : (p : Plan) → offsetCompared t o w b c ≡ some p → Claim ρ g t (asked o) p
-    compared-claim p = less (sameBinary (c .op) bi.Sub) refl
+    compared-claim =
+        each-given (Claim ρ g t (asked o)) _ (λ v d. let s = moves v d in each-some (Claim ρ g t (asked o)) _ (shifted v (s .0) (s .1)))
       where
-        given-is : (v : ℕ) → some (plan.constantBinary (ty.Bits w) v t o (c .base)) ≡ some p
-            → Claim ρ g t (asked o) (plan.constantBinary (ty.Bits w) v t o (c .base)) → Claim ρ g t (asked o) p
-        given-is v q d = subst (Claim ρ g t (asked o)) (some-has q) d
+        -- the base may be compared with v
+        Moves : Binary → ℕ → Type 0
+        Moves u v = Arithmetic u × (c .value < 2 ^ w → b < 2 ^ w → Shifts u w (c .value) b v)
 
-        more : (z : Bool) → sameBinary (c .op) bi.Add ≡ z
-            → given (only z (u128.wrapping-sub b (c .value))) (λ v. some (plan.constantBinary (ty.Bits w) v t o (c .base))) none ≡ some p
-            → Claim ρ g t (asked o) p
-        more true q d =
-            let n : c .op ≡ bi.Add = binary-is (c .op) bi.Add q in
-            given-is (u128.wrapping-sub b (c .value)) d
-            (shifted (u128.wrapping-sub b (c .value)) (subst Arithmetic (sym n) (λ a b s. refl))
-            (λ lc lb. subst (λ (u : Binary). Shifts u w (c .value) b (u128.wrapping-sub b (c .value))) (sym n) (add-shifts w (c .value) b wide lc lb)))
-        more false q d = absurd (none-has d)
-
-        less : (z : Bool) → sameBinary (c .op) bi.Sub ≡ z
-            → given (cond z (some (u128.wrapping-add b (c .value))) (only (sameBinary (c .op) bi.Add) (u128.wrapping-sub b (c .value))))
-            (λ v. some (plan.constantBinary (ty.Bits w) v t o (c .base))) none ≡ some p → Claim ρ g t (asked o) p
-        less true q d =
-            let n : c .op ≡ bi.Sub = binary-is (c .op) bi.Sub q in
-            given-is (u128.wrapping-add b (c .value)) d
-            (shifted (u128.wrapping-add b (c .value)) (subst Arithmetic (sym n) (λ a b s. refl))
-            (λ lc lb. subst (λ (u : Binary). Shifts u w (c .value) b (u128.wrapping-add b (c .value))) (sym n) (sub-shifts w (c .value) b wide lc lb)))
-        less false q d = more (sameBinary (c .op) bi.Add) refl d
+        moves : Each (Moves (c .op)) (cond (sameBinary (c .op) bi.Sub) (some (u128.wrapping-add b (c .value))) (only (sameBinary (c .op) bi.Add) (u128.wrapping-sub b (c .value))))
+        moves =
+            by-test (Each (Moves (c .op))) (sameBinary (c .op) bi.Sub)
+            (λ q.
+            each-some (Moves (c .op)) _
+            (subst (λ (u : Binary). Moves u (u128.wrapping-add b (c .value))) (sym (binary-is (c .op) bi.Sub q)) (λ a b s. refl, sub-shifts w (c .value) b wide)))
+            (λ q.
+            each-provided (Moves (c .op)) (sameBinary (c .op) bi.Add)
+            (λ d.
+            each-some (Moves (c .op)) _
+            (subst (λ (u : Binary). Moves u (u128.wrapping-sub b (c .value))) (sym (binary-is (c .op) bi.Add d)) (λ a b s. refl, add-shifts w (c .value) b wide))))
 
   pub offset-claim : (p : Plan) → offsetPlan g t o l (literal g r) ≡ some p → Claim ρ g t (binaryMeans t o (value ρ g l) (value ρ g r)) p
-  offset-claim p = first (isAny equalities o) refl (literal g r) refl
+  offset-claim =
+      each-provided (Claim ρ g t (asked o)) (isAny equalities o)
+      (λ q. each-given (Claim ρ g t (asked o)) (literal g r) (λ b lit. typed b q lit (typeAt g l) refl))
     where
-      chain : (b w : ℕ) → isAny equalities o ≡ true → literal g r ≡ some b → typeAt g l ≡ ty.Bits w → (c : Option Chain) → chainAt g l ≡ c
-          → given c (offsetCompared t o w b) none ≡ some p → Claim ρ g t (asked o) p
-      chain b w q lit tl none d e = absurd (none-has e)
-      chain b w q lit tl (some c) d e = compared-claim q b lit w tl c d p e
-
-      fit : (b w : ℕ) → isAny equalities o ≡ true → literal g r ≡ some b → typeAt g l ≡ ty.Bits w → (z : Bool)
-          → provided z (given (chainAt g l) (offsetCompared t o w b) none) ≡ some p → Claim ρ g t (asked o) p
-      fit b w q lit tl true e = chain b w q lit tl (chainAt g l) refl e
-      fit b w q lit tl false e = absurd (none-has e)
-
       typed : (b : ℕ) → isAny equalities o ≡ true → literal g r ≡ some b → (s : ScalarType) → typeAt g l ≡ s
-          → offsetTyped g t o l b s ≡ some p → Claim ρ g t (asked o) p
-      typed b q lit ty.Bool tl e = absurd (none-has e)
-      typed b q lit (ty.Bits w) tl e = fit b w q lit tl (leb b (mask w)) e
-      typed b q lit ty.Integer tl e = absurd (none-has e)
-
-      first : (z : Bool) → isAny equalities o ≡ z → (m : Option ℕ) → literal g r ≡ m
-          → provided z (given m (λ b. offsetTyped g t o l b (typeAt g l)) none) ≡ some p → Claim ρ g t (asked o) p
-      first true q none d e = absurd (none-has e)
-      first true q (some b) d e = typed b q d (typeAt g l) refl e
-      first false q m d e = absurd (none-has e)
+          → Each (Claim ρ g t (asked o)) (offsetTyped g t o l b s)
+      typed b q lit ty.Bool tl = each-none _
+      typed b q lit (ty.Bits w) tl =
+          each-provided (Claim ρ g t (asked o)) (leb b (mask w))
+          (λ h. each-given (Claim ρ g t (asked o)) (chainAt g l) (λ c d. compared-claim q b lit w tl c d))
+      typed b q lit ty.Integer tl = each-none _

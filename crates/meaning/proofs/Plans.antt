@@ -4,7 +4,9 @@ use mathlib.Core.Bool.{true}
 use mathlib.Core.List.{List}
 use mathlib.Core.Option.{Option, some}
 use Prim.Native.Nat.{ℕ, _≤_, _<_}
+use native.Mathlib.Nat.{mod-lt}
 use borrow.Author.Tests.{eq-eqb}
+use lib.Pow.{pow-pos}
 use Rattle.range.specs.declared.ScalarType.{ScalarType}
 use Rattle.range.specs.declared.ScalarType.the-variants as ty
 use Rattle.evaluate.specs.Evaluate.{reduced}
@@ -16,13 +18,13 @@ use Rattle.graph.specs.Layout.{countOf}
 use Rattle.graph.specs.Node.{typeAt}
 use Rattle.plan.specs.Plan as plan
 use Rattle.plan.specs.Plan.{Plan, Attempt, First}
-use Rattle.fold.specs.Bitfield.{Mask}
+use Rattle.bitfield.specs.Bitfield.{Mask}
 use Rattle.build.specs.Rest.{restPlan}
 use Rattle.build.specs.Build.{Call, identity, unary, modular, binary, slice, concat, Prog, call, constantThen, answer, tail, byConstant, planProg, maskProg, attemptProg, firstProg}
 use Rattle.native.specs.Typing.{concatTyped}
 use Rattle.meaning.specs.Value.{Env, size, valued, andThen, unaryMeans, binaryMeans, sliceMeans, concatMeans, operationMeans, value}
 use Rattle.meaning.proofs.Values.{then-is}
-use Rattle.meaning.proofs.Invariant.{shiftable, storedTyped, Inv, Extends, ext-here, ext-type, ext-value, Storable, Kept, Found}
+use Rattle.meaning.proofs.Invariant.{shiftable, storedTyped, Inv, ext-here, ext-type, ext-value, Storable, Kept, Found}
 use Rattle.meaning.proofs.Constants.{constant-means, constant-storable}
 use Rattle.meaning.proofs.Tree.{typeOf, meaning, Callable, Good}
 
@@ -45,15 +47,15 @@ concat-covers t v a b c d p q x e =
     let r = then-is a _ x e in
     rw (p (r .0) (r .1)) (then-covers b d _ q x (r .2))
 
-same-covers : {a b : Option ℕ} → a ≡ b → Covers b a
-same-covers e v q = e ∙ q
-
 -- ---- claims
 
 -- a number is a value of a type
 pub record Number (s : ScalarType) (v : ℕ) : Type 0 where
   pub width : typeWidth s ≤ 128
   pub small : reduced s v < size s
+
+pub bits-number : {w : ℕ} → w ≤ 128 → (v : ℕ) → Number (ty.Bits w) v
+bits-number {w} wide v = record { width = wide; small = mod-lt v (pow-pos w) }
 
 module _ (ρ : Env) (g : List ℕ) (t : ScalarType) (w : Option ℕ) where
   -- another builder's answer
@@ -144,10 +146,6 @@ module _ (ρ : Env) (t : ScalarType) (w : Option ℕ) where
         k .1,
         λ x e. (λ i. binaryMeans t′ o (ext-value ρ (a .grows) n (k .3) i) (means i)) ∙ k .5 x e,
       ))
-
-  -- a node found at a later graph, as an operand there
-  later : (g h : List ℕ) → Extends g h → (n : ℕ) → n < countOf g → Covers (value ρ g n) (value ρ h n)
-  later g h e n l v q = ext-value ρ e n l ∙ q
 
   pub perform-good : (g : List ℕ) → Inv ρ g → (p : Plan) → Claim ρ g t w p → Good ρ t w (planProg p) g
   perform-good g i (plan.give n) k = k

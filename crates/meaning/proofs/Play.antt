@@ -1,20 +1,24 @@
--- Demand 3 of every list of calls, where the builders are sound. Assumes nothing.
+-- Demand 3 of every list of calls, where the builders are sound; and the invariant of its graph, whatever the values. Assumes nothing.
 use mathlib.Core.Path.{_≡_, refl, sym, ap, _∙_, subst}
 use mathlib.Core.Bool.{Bool, true, false, cond, false≢true}
 use mathlib.Core.List.{List, [], _∷_, _++_}
 use mathlib.Core.Option.{Option, none, some}
 use Prim.Native.Nat.{ℕ, _^_, _≤_, _<_}
-use native.Mathlib.Nat.{mod-lt, le-refl}
+use native.Mathlib.Nat.{mod-lt, le-refl, lt-irrefl}
 use native.Mathlib.Omega.{arith}
 use borrow.Author.Tests.{eqb-true, ltb-true, leb-true, le-leb}
 use lib.Dec.{eqb, ltb, leb, lit<}
 use lib.ListN.{getD, replicate, length-replicate}
 use lib.Pow.{pow-pos}
+use lib.Signed.{leZ}
+use Rattle.word.specs.Value.{signed}
 use Rattle.word.proofs.Integer.{signed-mag}
 use Rattle.range.specs.Interval.{Interval, _∈_, both, typeInterval}
 use Rattle.range.specs.declared.ScalarType.{ScalarType}
 use Rattle.range.specs.declared.ScalarType.the-variants as ty
-use Rattle.range.proofs.Sound.{tests}
+use Rattle.range.proofs.Sound.{tests, at-most}
+use Rattle.range.proofs.Answers.{none-some, some-is}
+use Rattle.range.proofs.Valid.{Valid, type-valid}
 use Rattle.evaluate.specs.Evaluate.{reduced}
 use Rattle.evaluate.specs.Operator.{typeWidth, unaryWidth}
 use Rattle.evaluate.specs.declared.Binary.{Binary}
@@ -42,16 +46,44 @@ use Rattle.native.specs.Retain as retaining
 use Rattle.native.specs.Retain.{Retention, retainInGraph, retainCall}
 use Rattle.native.specs.Typing.{isNumber, binaryTyped}
 use Rattle.meaning.specs.Value.{Env, size, integerOf, ofType, valued, operationMeans, value}
-use Rattle.meaning.specs.Book.{Action, constant, input, effect, builder, retain, pattern, rangeOf, requestMeans, Line, Condition, inputIs, effectIs, Book, orElse, first, handed, adds, struck, retains, State, called, kept, act, play, Met, AllMet, Right, AllRight, Demand3}
-use Rattle.meaning.proofs.Values.{none-some, typed-is}
+use Rattle.meaning.specs.Book.{Action, constant, input, effect, builder, retain, pattern, rangeOf, requestMeans, Line, Condition, inputIs, effectIs, Book, orElse, first, handed, adds, struck, retains, State, called, kept, act, play, AllMet, Right, AllRight, Demand3}
+use Rattle.meaning.proofs.Values.{typed-is}
+use Rattle.graph.proofs.Appended.{empty-graph}
 use Rattle.meaning.proofs.Invariant.{shiftable, storedTyped, Ends, Within, Inv, Extends, ext-here, ext-value, Storable, Answered, insert-good}
-use Rattle.meaning.proofs.Constants.{no-interval, the, reduced-same, stored-low, stored-high, constant-storable}
+use Rattle.meaning.proofs.Constants.{pattern as pattern-small, reduced-same, stored-low, stored-high, constant-storable}
+use Rattle.meaning.proofs.Answers.{by-test, each-else}
 use Rattle.meaning.proofs.Ranges.{type-within, type-ends}
 use Rattle.meaning.proofs.Plans.{Covers, then-covers, binary-covers, concat-covers}
 use Rattle.meaning.proofs.Retain.{kept-here, retain-value, retain-inv}
 use Rattle.meaning.proofs.Tree as Tree
 use Rattle.meaning.proofs.Tree.{Sound}
-use Rattle.meaning.proofs.Views.{by-test, same-type}
+use Rattle.meaning.proofs.Views.{same-type}
+
+-- ---- what the induction needs of a condition
+
+-- an input's pattern, if it is of the type, lies in the range given: less than Met, so that one environment has it of every condition
+abbrev Bounded : Env → Condition → Type 0
+Bounded ρ (inputIs n t r) = typeWidth t ≤ 128 → ρ .input n < size t → (a : Interval) → r ≡ some a → (integerOf t (ρ .input n)) ∈ a
+Bounded ρ (effectIs n t) = Unit {0}
+
+abbrev AllBounded : Env → List Condition → Type 0
+AllBounded ρ [] = Unit {0}
+AllBounded ρ (c ∷ cs) = Bounded ρ c × AllBounded ρ cs
+
+met-bounded : (ρ : Env) (cs : List Condition) → AllMet ρ cs → AllBounded ρ cs
+met-bounded ρ [] m = tt
+met-bounded ρ (inputIs n t r ∷ cs) m = (λ w l. m .0 .1, met-bounded ρ cs (m .1))
+met-bounded ρ (effectIs n t ∷ cs) m = (tt, met-bounded ρ cs (m .1))
+
+-- patterns that are of no type
+outside : Env
+outside = record { input = λ n. 2 ^ 128; effect = λ n. 2 ^ 128 }
+
+outside-bounded : (cs : List Condition) → AllBounded outside cs
+unfolding outside
+outside-bounded [] = tt
+outside-bounded (inputIs n t r ∷ cs) = (λ w l. absurd (lt-irrefl (2 ^ 128) (pattern-small t (2 ^ 128) w l)), outside-bounded cs)
+outside-bounded (effectIs n t ∷ cs) = (tt, outside-bounded cs)
 
 -- ---- lines
 
@@ -84,25 +116,25 @@ module _ (ρ : Env) where
 
   -- ---- conditions
 
-  met-rest : (cs ds : List Condition) → AllMet ρ (cs ++ ds) → AllMet ρ ds
-  met-rest [] ds m = m
-  met-rest (c ∷ cs) ds m = met-rest cs ds (m .1)
+  bounded-rest : (cs ds : List Condition) → AllBounded ρ (cs ++ ds) → AllBounded ρ ds
+  bounded-rest [] ds m = m
+  bounded-rest (c ∷ cs) ds m = bounded-rest cs ds (m .1)
 
-  adds-met : (a : Response) (v : Option ℕ) (cs : List Condition) (b : Book) → AllMet ρ (adds a v cs b .conditions) → AllMet ρ (b .conditions)
-  adds-met (calls.id n) v cs b m = met-rest cs (b .conditions) m
-  adds-met calls.nothing v cs b m = m
-  adds-met (calls.refused k) v cs b m = m
+  adds-bounded : (a : Response) (v : Option ℕ) (cs : List Condition) (b : Book) → AllBounded ρ (adds a v cs b .conditions) → AllBounded ρ (b .conditions)
+  adds-bounded (calls.id n) v cs b m = bounded-rest cs (b .conditions) m
+  adds-bounded calls.nothing v cs b m = m
+  adds-bounded (calls.refused k) v cs b m = m
 
-  retains-met : (o : retaining.Outcome) (keep : List ℕ) (b : Book) → AllMet ρ (retains o keep b .conditions) → AllMet ρ (b .conditions)
-  retains-met (retaining.kept n) keep b m = m
-  retains-met (retaining.refused k) keep b m = m
+  retains-bounded : (o : retaining.Outcome) (keep : List ℕ) (b : Book) → AllBounded ρ (retains o keep b .conditions) → AllBounded ρ (b .conditions)
+  retains-bounded (retaining.kept n) keep b m = m
+  retains-bounded (retaining.refused k) keep b m = m
 
-  act-met : (a : Action) (s : State) → AllMet ρ (act ρ a s .book .conditions) → AllMet ρ (s .book .conditions)
-  act-met (constant t v) s m = adds-met (constantCall (s .graph) t (pattern v) .answer) (valued t (pattern v)) [] (s .book) m
-  act-met (input n t r) s m = adds-met (inputCall (s .graph) n t (rangeOf r) .answer) (ofType t (ρ .input n)) (inputIs n t (rangeOf r) ∷ []) (s .book) m
-  act-met (effect n t) s m = adds-met (effectCall (s .graph) n t .answer) (ofType t (ρ .effect n)) (effectIs n t ∷ []) (s .book) m
-  act-met (builder q) s m = adds-met (requestCall (s .graph) q .answer) (requestMeans (handed ρ (s .graph) (s .book .lines)) q) [] (s .book) m
-  act-met (retain keep mapping) s m = retains-met (retainCall (s .graph) keep mapping .outcome) keep (s .book) m
+  act-bounded : (a : Action) (s : State) → AllBounded ρ (act ρ a s .book .conditions) → AllBounded ρ (s .book .conditions)
+  act-bounded (constant t v) s m = adds-bounded (constantCall (s .graph) t (pattern v) .answer) (valued t (pattern v)) [] (s .book) m
+  act-bounded (input n t r) s m = adds-bounded (inputCall (s .graph) n t (rangeOf r) .answer) (ofType t (ρ .input n)) (inputIs n t (rangeOf r) ∷ []) (s .book) m
+  act-bounded (effect n t) s m = adds-bounded (effectCall (s .graph) n t .answer) (ofType t (ρ .effect n)) (effectIs n t ∷ []) (s .book) m
+  act-bounded (builder q) s m = adds-bounded (requestCall (s .graph) q .answer) (requestMeans (handed ρ (s .graph) (s .book .lines)) q) [] (s .book) m
+  act-bounded (retain keep mapping) s m = retains-bounded (retainCall (s .graph) keep mapping .outcome) keep (s .book) m
 
 -- ---- what a request means goes on where more is defined
 
@@ -226,35 +258,41 @@ module _ (ρ : Env) (s : State) (i : Inv ρ (s .graph)) (r : AllRight ρ (s .gra
 
   -- a leaf, whose node may be stored once the call has answered an id
   leaf-fine : (t : ScalarType) (a : Option Interval) (o : Op) (v : Option ℕ) (cs : List Condition)
-      → (AllMet ρ (cs ++ s .book .conditions) → Storable ρ (s .graph) t a o) → Covers v (operationMeans ρ t o (value ρ (s .graph)))
-      → AllMet ρ (called (finished (s .graph) (inserted (s .graph) t a o)) v cs (s .book) .book .conditions) → After v cs (finished (s .graph) (inserted (s .graph) t a o))
+      → (AllBounded ρ (cs ++ s .book .conditions) → Storable ρ (s .graph) t a o) → Covers v (operationMeans ρ t o (value ρ (s .graph)))
+      → AllBounded ρ (called (finished (s .graph) (inserted (s .graph) t a o)) v cs (s .book) .book .conditions) → After v cs (finished (s .graph) (inserted (s .graph) t a o))
   leaf-fine t a o v cs storable c = by (inserted (s .graph) t a o .answer) (inserted (s .graph) t a o .words) (inserted-put (s .graph) t a o) (insert-good ρ (s .graph) t a o i)
     where
       by : (x : Reply) (h : List ℕ) → IsPut x → (Storable ρ (s .graph) t a o → Answered ρ (s .graph) t (operationMeans ρ t o (value ρ (s .graph))) x h)
-          → AllMet ρ (called (finished (s .graph) (made x h)) v cs (s .book) .book .conditions) → After v cs (finished (s .graph) (made x h))
+          → AllBounded ρ (called (finished (s .graph) (made x h)) v cs (s .book) .book .conditions) → After v cs (finished (s .graph) (made x h))
       by (graph.id n) h p k m = answered-fine v cs t (operationMeans ρ t o (value ρ (s .graph))) (graph.id n) h (k (storable m)) c
       by graph.nothing h p k m = absurd p
       by graph.room h p k m = (i, r)
       by graph.units h p k m = absurd p
 
   pattern-ends : (p : Option (ℕ × ℕ)) (a : Interval) → rangeOf p ≡ some a → Ends a
-  pattern-ends none a e = absurd (no-interval e)
+  pattern-ends none a e = absurd (none-some e)
   pattern-ends (some p) a e =
-      subst Ends (the e)
+      subst Ends (some-is e)
       (record { low = signed-mag 128 (pattern (p .0)) (lit< tt) (mod-lt (p .0) (pow-pos 128)); high = signed-mag 128 (pattern (p .1)) (lit< tt) (mod-lt (p .1) (pow-pos 128)) })
 
   given-ends : (t : ScalarType) (p : Option (ℕ × ℕ)) (a : Interval) → graph.orElse (rangeOf p) (typeInterval t) ≡ some a → Ends a
-  given-ends t none a e = type-ends t a e
-  given-ends t (some p) a e = pattern-ends (some p) a e
+  given-ends t p = each-else Ends (rangeOf p) (pattern-ends p) (type-ends t)
 
   given-within : (t : ScalarType) (p : Option (ℕ × ℕ)) (x : ℕ) → x < size t → ((a : Interval) → rangeOf p ≡ some a → (integerOf t x) ∈ a)
       → Within t x (graph.orElse (rangeOf p) (typeInterval t))
-  given-within t none x l h a e = type-within t x l a e
-  given-within t (some p) x l h a e = h a e
+  given-within t p x l h = each-else (λ (a : Interval). (integerOf t x) ∈ a) (rangeOf p) h (type-within t x l)
 
-  input-storable : (n : ℕ) (t : ScalarType) (p : Option (ℕ × ℕ)) → typeWidth t ≤ 128 → Met ρ (inputIs n t (rangeOf p))
+  given-valid : (t : ScalarType) (p : Option (ℕ × ℕ)) → isDeclared t (rangeOf p) ≡ true → (a : Interval)
+      → graph.orElse (rangeOf p) (typeInterval t) ≡ some a → Valid t a
+  given-valid t none d a e = type-valid t a e
+  given-valid t (some p) d a e =
+      let b : Interval = record { low = signed 128 (pattern (p .0)); high = signed 128 (pattern (p .1)) } in
+      let c = tests (leZ (b .low) (b .high)) _ d in
+      subst (Valid t) (some-is e) (record { full = at-most (b .low) (b .high) (c .0); inside = c .1 })
+
+  input-storable : (n : ℕ) (t : ScalarType) (p : Option (ℕ × ℕ)) → typeWidth t ≤ 128 → isDeclared t (rangeOf p) ≡ true → Bounded ρ (inputIs n t (rangeOf p))
       → Storable ρ (s .graph) t (graph.orElse (rangeOf p) (typeInterval t)) (node.input n)
-  input-storable n t p wide m = record {
+  input-storable n t p wide d m = record {
     stored = record {
       width = omega arith;
       low = stored-low (graph.orElse (rangeOf p) (typeInterval t)) (given-ends t p);
@@ -264,33 +302,37 @@ module _ (ρ : Env) (s : State) (i : Inv ρ (s .graph)) (r : AllRight ρ (s .gra
     };
     width = wide;
     below = omega arith;
+    offset = omega arith;
+    parameter = omega arith;
+    valid = given-valid t p d;
     typed = tt;
     refined = tt;
     ends = given-ends t p;
     within = λ v e.
-        let q = typed-is t (ρ .input n) v e .0 in
-        subst (λ (x : ℕ). Within t x (graph.orElse (rangeOf p) (typeInterval t))) (sym q) (given-within t p (ρ .input n) (m .0) (m .1));
+        let (q, l) = typed-is t (ρ .input n) v e in
+        let l : ρ .input n < size t = subst (λ (x : ℕ). x < size t) q l in
+        subst (λ (x : ℕ). Within t x (graph.orElse (rangeOf p) (typeInterval t))) (sym q) (given-within t p (ρ .input n) l (m wide l));
   }
 
-  input-fine : (n : ℕ) (t : ScalarType) (p : Option (ℕ × ℕ)) → AllMet ρ (act ρ (input n t p) s .book .conditions) → Fine ρ (act ρ (input n t p) s)
+  inleaf-fine : (n : ℕ) (t : ScalarType) (p : Option (ℕ × ℕ)) → AllBounded ρ (act ρ (input n t p) s .book .conditions) → Fine ρ (act ρ (input n t p) s)
   unfolding inputCall inputInGraph graph.input
-  input-fine n t p =
+  inleaf-fine n t p =
       let v = ofType t (ρ .input n) in
       let cs = inputIs n t (rangeOf p) ∷ [] in
-      by-test (λ c. AllMet ρ (called c v cs (s .book) .book .conditions) → After v cs c) (isGraph (s .graph))
+      by-test (λ c. AllBounded ρ (called c v cs (s .book) .book .conditions) → After v cs c) (isGraph (s .graph))
       (λ e.
-      by-test (λ c. AllMet ρ (called c v cs (s .book) .book .conditions) → After v cs c) (leb (typeWidth t) 128)
+      by-test (λ c. AllBounded ρ (called c v cs (s .book) .book .conditions) → After v cs c) (leb (typeWidth t) 128)
       (λ f.
-      by-test (λ c. AllMet ρ (called c v cs (s .book) .book .conditions) → After v cs c) (isDeclared t (rangeOf p))
+      by-test (λ c. AllBounded ρ (called c v cs (s .book) .book .conditions) → After v cs c) (isDeclared t (rangeOf p))
       (λ d.
       leaf-fine t (graph.orElse (rangeOf p) (typeInterval t)) (node.input n) v cs
-      (λ m. input-storable n t p (leb-true (typeWidth t) 128 f) (m .0)) (λ x q. q))
+      (λ m. input-storable n t p (leb-true (typeWidth t) 128 f) d (m .0)) (λ x q. q))
       (λ d m. refused-fine v cs 5))
       (λ f m. refused-fine v cs 2))
       (λ e m. refused-fine v cs 1)
 
-  effect-storable : (n : ℕ) (t : ScalarType) → typeWidth t ≤ 128 → Met ρ (effectIs n t) → Storable ρ (s .graph) t (typeInterval t) (node.effect n)
-  effect-storable n t wide m = record {
+  effect-storable : (n : ℕ) (t : ScalarType) → typeWidth t ≤ 128 → Storable ρ (s .graph) t (typeInterval t) (node.effect n)
+  effect-storable n t wide = record {
     stored = record {
       width = omega arith;
       low = stored-low (typeInterval t) (type-ends t);
@@ -300,23 +342,28 @@ module _ (ρ : Env) (s : State) (i : Inv ρ (s .graph)) (r : AllRight ρ (s .gra
     };
     width = wide;
     below = omega arith;
+    offset = omega arith;
+    parameter = omega arith;
+    valid = type-valid t;
     typed = tt;
     refined = tt;
     ends = type-ends t;
     within = λ v e. type-within t v (typed-is t (ρ .effect n) v e .1);
   }
 
-  effect-fine : (n : ℕ) (t : ScalarType) → AllMet ρ (act ρ (effect n t) s .book .conditions) → Fine ρ (act ρ (effect n t) s)
+  effect-fine : (n : ℕ) (t : ScalarType) → Fine ρ (act ρ (effect n t) s)
   unfolding effectCall effectInGraph graph.effect
   effect-fine n t =
       let v = ofType t (ρ .effect n) in
       let cs = effectIs n t ∷ [] in
-      by-test (λ c. AllMet ρ (called c v cs (s .book) .book .conditions) → After v cs c) (isGraph (s .graph))
+      by-test (After v cs) (isGraph (s .graph))
       (λ e.
-      by-test (λ c. AllMet ρ (called c v cs (s .book) .book .conditions) → After v cs c) (leb (typeWidth t) 128)
-      (λ f. leaf-fine t (typeInterval t) (node.effect n) v cs (λ m. effect-storable n t (leb-true (typeWidth t) 128 f) (m .0)) (λ x q. q))
-      (λ f m. refused-fine v cs 2))
-      (λ e m. refused-fine v cs 1)
+      by-test (After v cs) (leb (typeWidth t) 128)
+      (λ f.
+      answered-fine v cs t v (inserted (s .graph) t (typeInterval t) (node.effect n) .answer) (inserted (s .graph) t (typeInterval t) (node.effect n) .words)
+      (insert-good ρ (s .graph) t (typeInterval t) (node.effect n) i (effect-storable n t (leb-true (typeWidth t) 128 f))) (λ x q. q))
+      (λ f. refused-fine v cs 2))
+      (λ e. refused-fine v cs 1)
 
   -- ---- builders
 
@@ -441,17 +488,20 @@ module _ (ρ : Env) (s : State) (i : Inv ρ (s .graph)) (r : AllRight ρ (s .gra
 module _ (ρ : Env) (builds : Sound ρ build.build)
     (tested : (g : List ℕ) → Inv ρ g → (v low high : ℕ) → v < countOf g
     → Tree.Ends ρ g ty.Bool (requestMeans (value ρ g) (request.unsignedRange v low high)) (build.unsignedRange v low high UNITS g)) where
-  act-fine : (a : Action) (s : State) → Fine ρ s → AllMet ρ (act ρ a s .book .conditions) → Fine ρ (act ρ a s)
+  act-fine : (a : Action) (s : State) → Fine ρ s → AllBounded ρ (act ρ a s .book .conditions) → Fine ρ (act ρ a s)
   act-fine (constant t v) s f m = constant-fine ρ s (f .0) (f .1) t v
-  act-fine (input n t p) s f m = input-fine ρ s (f .0) (f .1) n t p m
-  act-fine (effect n t) s f m = effect-fine ρ s (f .0) (f .1) n t m
+  act-fine (input n t p) s f m = inleaf-fine ρ s (f .0) (f .1) n t p m
+  act-fine (effect n t) s f m = effect-fine ρ s (f .0) (f .1) n t
   act-fine (builder q) s f m = builder-fine ρ s (f .0) (f .1) builds (tested (s .graph) (f .0)) q
   act-fine (retain keep mapping) s f m = retain-fine ρ s (f .0) (f .1) keep mapping
 
   empty-inv : Inv ρ (replicate REGION 0)
   empty-inv = record {
+    graph = empty-graph;
     size = length-replicate {A = ℕ} REGION 0;
     few = omega arith;
+    exact = λ n l. absurd (omega arith);
+    keys = λ n m a b e. absurd (omega arith);
     below = λ n l. absurd (omega arith);
     width = λ n l. absurd (omega arith);
     typed = λ n l. absurd (omega arith);
@@ -461,16 +511,42 @@ module _ (ρ : Env) (builds : Sound ρ build.build)
     alias = λ n l. absurd (omega arith);
   }
 
-  play-fine : (calls : List Action) → AllMet ρ (play ρ calls .book .conditions) → Fine ρ (play ρ calls)
+  play-fine : (calls : List Action) → AllBounded ρ (play ρ calls .book .conditions) → Fine ρ (play ρ calls)
   unfolding play
   play-fine [] m = (empty-inv, tt)
-  play-fine (a ∷ before) m = act-fine a (play ρ before) (play-fine before (act-met ρ a (play ρ before) m)) m
+  play-fine (a ∷ before) m = act-fine a (play ρ before) (play-fine before (act-bounded ρ a (play ρ before) m)) m
 
   pub demand3-of : (calls : List Action) → AllMet ρ (play ρ calls .book .conditions) → Demand3 ρ (play ρ calls)
   demand3-of calls m =
-      let f = play-fine calls m in
+      let f = play-fine calls (met-bounded ρ (play ρ calls .book .conditions) m) in
       record {
         lines = f .1;
         ranges = f .0 .ranged;
         mappings = mapped ρ (play ρ calls) (f .0) (f .1);
       }
+
+-- ---- the graph of a list of calls, whatever the values
+
+-- a call reads and writes the graph alone
+act-graph : (ρ σ : Env) (a : Action) (s u : State) → s .graph ≡ u .graph → act ρ a s .graph ≡ act σ a u .graph
+act-graph ρ σ (constant t v) s u e = ap (λ (g : List ℕ). constantCall g t (pattern v) .words) e
+act-graph ρ σ (input n t p) s u e = ap (λ (g : List ℕ). inputCall g n t (rangeOf p) .words) e
+act-graph ρ σ (effect n t) s u e = ap (λ (g : List ℕ). effectCall g n t .words) e
+act-graph ρ σ (builder q) s u e = ap (λ (g : List ℕ). requestCall g q .words) e
+act-graph ρ σ (retain keep mapping) s u e = ap (λ (g : List ℕ). retainCall g keep mapping .words) e
+
+-- the calls alone make the graph
+pub play-graph : (ρ σ : Env) (calls : List Action) → play ρ calls .graph ≡ play σ calls .graph
+unfolding play
+play-graph ρ σ [] = refl
+play-graph ρ σ (a ∷ before) = act-graph ρ σ a (play ρ before) (play σ before) (play-graph ρ σ before)
+
+-- the invariant at one environment, with no condition: what it says of the graph alone holds whatever the values
+pub grown : ((ρ : Env) → Sound ρ build.build)
+    → ((ρ : Env) (g : List ℕ) → Inv ρ g → (v low high : ℕ) → v < countOf g
+    → Tree.Ends ρ g ty.Bool (requestMeans (value ρ g) (request.unsignedRange v low high)) (build.unsignedRange v low high UNITS g))
+    → (calls : List Action) → (ρ : Env) × Inv ρ (play ρ calls .graph)
+grown builds tested calls = (
+  outside,
+  play-fine outside (builds outside) (tested outside) calls (outside-bounded (play outside calls .book .conditions)) .0,
+)

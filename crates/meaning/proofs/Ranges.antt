@@ -1,24 +1,25 @@
 -- The range of a new node holds its value, if its operands' ranges hold theirs. Assumes nothing.
 use mathlib.Core.Path.{_≡_, refl, sym, ap, _∙_, subst}
-use mathlib.Core.Bool.{Bool, true, false, cond}
+use mathlib.Core.Bool.{Bool, true, false, cond, false≢true}
 use mathlib.Core.Logic.{⊎-elim}
 use mathlib.Core.Option.{Option, none, some}
-use Prim.Native.Nat.{ℕ, _+_, _-_, _*_, _/_, _%_, _^_, _≤_, _<_}
+use Prim.Native.Nat.{ℕ, _-_, _*_, _/_, _%_, _^_, _≤_, _<_}
 use native.Mathlib.Nat.{lt-of-lt-of-le, lt-of-le-of-lt, mod-lt, mod-le, div-le-self, le-refl, le-trans}
 use native.Mathlib.Omega.{arith}
 use borrow.Author.Tests.{ltb-true, leb-true, le-leb, ne-eqb}
 use lib.Bits.{bitAnd, and-le-l}
-use lib.Dec.{T, ltb, eqb}
+use lib.Dec.{ltb, eqb}
 use lib.IntN.{ℤ, pos, negsuc, negℤ, _+ℤ_, _-ℤ_, _*ℤ_, natAbs}
 use lib.Pow.{pow-pos, pow-lt, pow-mono, ones-lt}
-use lib.Signed.{mag, leZ, ltZ, quotZ, remZ, _≤ℤ_, leZ-yes, mag-rem}
+use lib.Signed.{mag, ltZ, quotZ, remZ, _≤ℤ_, mag-rem}
 use Rattle.word.specs.Value.{residue, signed, fits, fitted, provided, isNeg, quotient, remainder}
 use Rattle.word.proofs.Integer.{residue-pos, residue-sub, signed-low, signed-high, signed-residue, signed-mag, lt-or-ge}
 use Rattle.range.specs.Interval.{Interval, _∈_, both, nonnegative, bitsInterval, typeInterval, filtered, signExtended, negInterval, andInterval, udivInterval, uremInterval, shlInterval, shrInterval}
 use Rattle.range.specs.declared.ScalarType.{ScalarType}
 use Rattle.range.specs.declared.ScalarType.the-variants as ty
 use Rattle.range.proofs.Order.{orders, less-true}
-use Rattle.range.proofs.Sound.{tests, neg-in, add-in, sub-in, mul-in, quot-in, rem-in, and-in, udiv-in, urem-in, shl-in, shr-in, filtered-in, type-in-bits, type-in-bool, sign-extended-in}
+use Rattle.range.proofs.Sound.{tests, neg-in, add-in, sub-in, mul-in, quot-in, rem-in, and-in, udiv-in, urem-in, shl-in, shr-in, filtered-in, type-in-bits, type-in-bool, sign-extended-in, at-most}
+use Rattle.range.proofs.Answers.{none-some, some-is, provided-is}
 use Rattle.evaluate.specs.Evaluate.{mapped, reduced, evaluateUnary, evaluateBinary, extended}
 use Rattle.evaluate.specs.Operator.{typeWidth}
 use Rattle.evaluate.specs.declared.Unary.{Unary}
@@ -32,35 +33,11 @@ use Rattle.fold.specs.Shape.{sameType, narrowType}
 use Rattle.fold.specs.Range.{bothGiven, negatedRange, heldTo, bitsRule, integerRule, unaryRange, binaryRange}
 use Rattle.native.specs.Typing.{isNumber, unaryTyped}
 use Rattle.meaning.specs.Value.{size, integerOf}
+use Rattle.meaning.proofs.Modular.{difference, wraps}
+use Rattle.meaning.proofs.Answers.{mapped-is, both-given, each-else}
 use Rattle.meaning.proofs.Invariant.{storedTyped, Ends, Within}
 use Rattle.meaning.proofs.Constants.{pattern}
 use Rattle.meaning.proofs.Views.{same-type}
-
--- ---- answers that are there
-
-module _ {A : Type 0} where
-  pub not-there : {a : A} → none ≡ some a → ⊥
-  not-there e = let z : _≡_ {A = ℕ} 0 1 = cc in omega arith
-
-  pub there : {a b : A} → some a ≡ some b → a ≡ b
-  there e = cc
-
-  pub provided-is : (t : Bool) (o : Option A) {r : A} → provided t o ≡ some r → (t ≡ true) × (o ≡ some r)
-  provided-is true o e = (refl, e)
-  provided-is false o e = absurd (not-there e)
-
-pub mapped-is : {A B : Type 0} (f : A → B) (o : Option A) (b : B) → mapped f o ≡ some b → (a : A) × (o ≡ some a) × (f a ≡ b)
-mapped-is f none b e = absurd (not-there e)
-mapped-is f (some a) b e = (a, refl, there e)
-
-pub both-given : {A B C : Type 0} (f : A → B → Option C) (o : Option A) (p : Option B) (c : C) → bothGiven o p f ≡ some c
-    → (a : A) × (b : B) × (o ≡ some a) × (p ≡ some b) × (f a b ≡ some c)
-both-given f none p c e = absurd (not-there e)
-both-given f (some a) none c e = absurd (not-there e)
-both-given f (some a) (some b) c e = (a, b, refl, refl, e)
-
-false-true : false ≡ true → ⊥
-false-true e = let z : _≡_ {A = ℕ} 0 1 = cc in omega arith
 
 -- ---- the readings of a pattern
 
@@ -68,14 +45,11 @@ not-below : (z : ℤ) → pos 0 ≤ℤ z → isNeg z ≡ false
 not-below (pos n) h = refl
 not-below (negsuc n) h = absurd (omega orders)
 
-test-le : (x y : ℤ) → leZ x y ≡ true → x ≤ℤ y
-test-le x y e = leZ-yes (subst T (sym e) tt)
-
 -- a pattern that is read as no negative integer is below half
 low-half : (w n : ℕ) → n < 2 ^ w → isNeg (signed w n) ≡ false → n < 2 ^ (w - 1)
 low-half w n l e =
     ⊎-elim (λ (h : n < 2 ^ (w - 1)). h)
-    (λ (h : 2 ^ (w - 1) ≤ n). absurd (false-true (sym e ∙ ap isNeg (signed-high w n h l)))) (lt-or-ge n (2 ^ (w - 1)))
+    (λ (h : 2 ^ (w - 1) ≤ n). absurd (false≢true (sym e ∙ ap isNeg (signed-high w n h l)))) (lt-or-ge n (2 ^ (w - 1)))
 
 low-in : (w n : ℕ) (a : Interval) → n < 2 ^ w → (signed w n) ∈ a → pos 0 ≤ℤ a .low → n < 2 ^ (w - 1)
 low-in w n a l f h = low-half w n l (not-below (signed w n) (omega orders))
@@ -84,31 +58,31 @@ low-in w n a l f h = low-half w n l (not-below (signed w n) (omega orders))
 not-negative : (p q : Interval) (o : Option Interval) (a : Interval) → provided (both (nonnegative p) (nonnegative q)) o ≡ some a
     → (pos 0 ≤ℤ p .low) × (pos 0 ≤ℤ q .low)
 not-negative p q o a e =
-    let d = tests (nonnegative p) (nonnegative q) (provided-is _ o e .0) in (test-le (pos 0) (p .low) (d .0), test-le (pos 0) (q .low) (d .1))
+    let d = tests (nonnegative p) (nonnegative q) (provided-is _ o e .0) in (at-most (pos 0) (p .low) (d .0), at-most (pos 0) (q .low) (d .1))
 
 -- the same, and a divisor above 0
 positive : (p q : Interval) (o : Option Interval) (a : Interval) → provided (both (nonnegative p) (ltZ (pos 0) (q .low))) o ≡ some a
     → (pos 0 ≤ℤ p .low) × (pos 0 ≤ℤ q .low)
 positive p q o a e =
     let d = tests (nonnegative p) (ltZ (pos 0) (q .low)) (provided-is _ o e .0) in
-    (test-le (pos 0) (p .low) (d .0), omega (orders, less-true (pos 0) (q .low) (d .1)))
+    (at-most (pos 0) (p .low) (d .0), omega (orders, less-true (pos 0) (q .low) (d .1)))
 
 -- ---- the ranges of types
 
 pub type-within : (t : ScalarType) (v : ℕ) → v < size t → Within t v (typeInterval t)
 type-within ty.Bool v l a e = type-in-bool v a l e
 type-within (ty.Bits w) v l a e = type-in-bits w v a l e
-type-within ty.Integer v l a e = absurd (not-there e)
+type-within ty.Integer v l a e = absurd (none-some e)
 
 pub type-ends : (t : ScalarType) (a : Interval) → typeInterval t ≡ some a → Ends a
 unfolding bitsInterval
-type-ends ty.Bool a e = subst Ends (there e) (record { low = pow-pos 127; high = pow-lt {i = 0} {j = 127} (omega arith) })
+type-ends ty.Bool a e = subst Ends (some-is e) (record { low = pow-pos 127; high = pow-lt {i = 0} {j = 127} (omega arith) })
 type-ends (ty.Bits w) a e =
     let p = provided-is (ltb w 128) _ e in
     let l : w < 128 = ltb-true w 128 (p .0) in
     let h : w ≤ 127 = omega arith in
-    subst Ends (there (p .1)) (record { low = pow-pos 127; high = lt-of-lt-of-le (ones-lt w) (pow-mono h) })
-type-ends ty.Integer a e = absurd (not-there e)
+    subst Ends (some-is (p .1)) (record { low = pow-pos 127; high = lt-of-lt-of-le (ones-lt w) (pow-mono h) })
+type-ends ty.Integer a e = absurd (none-some e)
 
 -- ---- types of operands
 
@@ -117,9 +91,9 @@ same-narrow s w d = rw (same-type s (ty.Bits w) d) (le-leb w w (le-refl w))
 
 -- a value of Bits of at most w bits
 bits-read : (s : ScalarType) (w v : ℕ) (a : Interval) → w ≤ 128 → narrowType s w ≡ true → v < size s → (integerOf s v) ∈ a → ((pos v) ∈ a) × (v < 2 ^ 128)
-bits-read ty.Bool w v a h d l f = absurd (false-true d)
+bits-read ty.Bool w v a h d l f = absurd (false≢true d)
 bits-read (ty.Bits k) w v a h d l f = (f, pattern (ty.Bits k) v (le-trans (leb-true k w d) h) l)
-bits-read ty.Integer w v a h d l f = absurd (false-true d)
+bits-read ty.Integer w v a h d l f = absurd (false≢true d)
 
 -- a value in a range that is not negative is read as itself
 read-low : (t : ScalarType) (v : ℕ) (a : Interval) → v < size t → (integerOf t v) ∈ a → pos 0 ≤ℤ a .low → (pos v) ∈ a
@@ -135,19 +109,15 @@ Low w v a = (z : ℤ) × (z ∈ a) × (v ≡ residue w z)
 
 held : (w v : ℕ) (m : Option Interval) → v < 2 ^ w → ((a : Interval) → m ≡ some a → Low w v a)
     → Within (ty.Bits w) v (orElse (heldTo w m) (typeInterval (ty.Bits w)))
-held w v none l f r e = type-within (ty.Bits w) v l r e
-held w v (some a) l f r e = go (filtered w a) refl e
-  where
-    go : (o : Option Interval) → filtered w a ≡ o → orElse o (typeInterval (ty.Bits w)) ≡ some r → (pos v) ∈ r
-    go none q e = type-within (ty.Bits w) v l r e
-    go (some b) q e =
-        let (z, i, d) = f a refl in
-        let (j, n) = filtered-in w a b z i q in
-        let s : z ≡ pos v = n .1 ∙ ap pos (sym (d ∙ ap (residue w) (n .1) ∙ residue-pos w (n .0) (n .2))) in
-        rw (← s, ← there e) j
-
-pub wrapped-sub : (k x y : ℕ) → x < 2 ^ k → y < 2 ^ k → residue k (pos x -ℤ pos y) ≡ (x + (2 ^ k - y)) % 2 ^ k
-wrapped-sub k x y l m = sym (rw (residue-pos k x l, residue-pos k y m) at (residue-sub k (pos x) (pos y)))
+held w v none l f = type-within (ty.Bits w) v l
+held w v (some a) l f =
+    each-else (λ (r : Interval). (pos v) ∈ r) (filtered w a)
+    (λ b q.
+    let (z, i, d) = f a refl in
+    let (j, n) = filtered-in w a b z i q in
+    let s : z ≡ pos v = n .1 ∙ ap pos (sym (d ∙ ap (residue w) (n .1) ∙ residue-pos w (n .0) (n .2))) in
+    rw (← s) j)
+    (type-within (ty.Bits w) v l)
 
 module _ (w : ℕ) (narrow : w ≤ 128) (s t : ScalarType) (x y v : ℕ) (p q a : Interval) (l : x < size s) (m : y < size t)
     (f : (integerOf s x) ∈ p) (g : (integerOf t y) ∈ q) (ends : Ends p) where
@@ -169,39 +139,39 @@ module _ (w : ℕ) (narrow : w ≤ 128) (s t : ScalarType) (x y v : ℕ) (p q a 
 
   bits-low : (o : Binary) → storedTyped o s t (ty.Bits w) ≡ true → evaluateBinary o (ty.Bits w) x y ≡ some v → bitsRule o p q ≡ some a → Low w v a
   unfolding evaluateBinary bitsRule residue shlInterval shrInterval
-  bits-low bi.Add d e r = same-low d (λ i j b c. low-of (pos x +ℤ pos y) _ (add-in p q a _ _ i j r) refl (there e))
-  bits-low bi.Sub d e r = same-low d (λ i j b c. low-of (pos x -ℤ pos y) _ (sub-in p q a _ _ i j r) (wrapped-sub 128 x y b c) (there e))
-  bits-low bi.Mul d e r = same-low d (λ i j b c. low-of (pos x *ℤ pos y) _ (mul-in p q a _ _ i j r) refl (there e))
-  bits-low bi.And d e r = same-low d (λ i j b c. (pos (bitAnd x y), and-in p q a x y i j r, sym (there e)))
-  bits-low bi.Or d e r = absurd (not-there r)
-  bits-low bi.Xor d e r = absurd (not-there r)
+  bits-low bi.Add d e r = same-low d (λ i j b c. low-of (pos x +ℤ pos y) _ (add-in p q a _ _ i j r) refl (some-is e))
+  bits-low bi.Sub d e r = same-low d (λ i j b c. low-of (pos x -ℤ pos y) _ (sub-in p q a _ _ i j r) (sym (wraps _-ℤ_ difference residue-sub 128 x y b c)) (some-is e))
+  bits-low bi.Mul d e r = same-low d (λ i j b c. low-of (pos x *ℤ pos y) _ (mul-in p q a _ _ i j r) refl (some-is e))
+  bits-low bi.And d e r = same-low d (λ i j b c. (pos (bitAnd x y), and-in p q a x y i j r, sym (some-is e)))
+  bits-low bi.Or d e r = absurd (none-some r)
+  bits-low bi.Xor d e r = absurd (none-some r)
   bits-low bi.ShiftLeft d e r =
       let i = left (tests (narrowType s w) (isNumber t) d .0) in
-      low-of (pos (x * 2 ^ y)) _ (shl-in p q a x y (i .0) (read-low t y q m g (not-negative p q _ a r .1)) r) (sym (shift-left x y)) (there e)
+      low-of (pos (x * 2 ^ y)) _ (shl-in p q a x y (i .0) (read-low t y q m g (not-negative p q _ a r .1)) r) (sym (shift-left x y)) (some-is e)
   bits-low bi.ShiftRight d e r =
       let i = left (same-narrow s w (tests (sameType s (ty.Bits w)) (isNumber t) d .0)) in (
         pos (x / 2 ^ y),
         shr-in p q a x y (ends .low) (i .0) (read-low t y q m g (not-negative p q _ a r .1)) r,
-        sym (there e) ∙ ap (λ (n : ℕ). n % 2 ^ w) (shift-right x y (i .1)),
+        sym (some-is e) ∙ ap (λ (n : ℕ). n % 2 ^ w) (shift-right x y (i .1)),
       )
-  bits-low bi.ArithmeticShiftRight d e r = absurd (not-there r)
-  bits-low bi.Equal d e r = absurd (not-there r)
-  bits-low bi.NotEqual d e r = absurd (not-there r)
-  bits-low bi.LessSigned d e r = absurd (not-there r)
-  bits-low bi.LessUnsigned d e r = absurd (not-there r)
-  bits-low bi.LessEqualSigned d e r = absurd (not-there r)
-  bits-low bi.LessEqualUnsigned d e r = absurd (not-there r)
-  bits-low bi.DivideSigned d e r = absurd (not-there r)
-  bits-low bi.RemainderSigned d e r = absurd (not-there r)
-  bits-low bi.DivideUnsigned d e r = absurd (not-there r)
-  bits-low bi.RemainderUnsigned d e r = absurd (not-there r)
+  bits-low bi.ArithmeticShiftRight d e r = absurd (none-some r)
+  bits-low bi.Equal d e r = absurd (none-some r)
+  bits-low bi.NotEqual d e r = absurd (none-some r)
+  bits-low bi.LessSigned d e r = absurd (none-some r)
+  bits-low bi.LessUnsigned d e r = absurd (none-some r)
+  bits-low bi.LessEqualSigned d e r = absurd (none-some r)
+  bits-low bi.LessEqualUnsigned d e r = absurd (none-some r)
+  bits-low bi.DivideSigned d e r = absurd (none-some r)
+  bits-low bi.RemainderSigned d e r = absurd (none-some r)
+  bits-low bi.DivideUnsigned d e r = absurd (none-some r)
+  bits-low bi.RemainderUnsigned d e r = absurd (none-some r)
 
 -- ---- Integer
 
 pub fitted-is : (z u : ℤ) → fitted z ≡ some u → (z ≡ u) × (mag u < 2 ^ 127)
 fitted-is z u e =
     let p = provided-is (fits z) (some z) e in
-    let s : z ≡ u = there (p .1) in
+    let s : z ≡ u = some-is (p .1) in
     (s, subst (λ (i : ℤ). mag i < 2 ^ 127) s (fits-below z .0 (p .0)))
 
 pub quotient-is : (x y u : ℤ) → quotient x y ≡ some u → (quotZ x y ≡ u) × (mag u < 2 ^ 127)
@@ -212,7 +182,7 @@ remainder-is : (x y u : ℤ) → mag x < 2 ^ 127 → remainder x y ≡ some u �
 unfolding remainder
 remainder-is x y u l e =
     let p = provided-is (ltb 0 (natAbs y)) _ e in
-    let s : remZ x y ≡ u = there (provided-is (fits (quotZ x y)) (some (remZ x y)) (p .1) .1) in
+    let s : remZ x y ≡ u = some-is (provided-is (fits (quotZ x y)) (some (remZ x y)) (p .1) .1) in
     (s, subst (λ (i : ℤ). mag i < 2 ^ 127) s (lt-of-le-of-lt (mag-rem x y) l))
 
 plain : (o : Option ℕ) (v : ℕ) → mapped (reduced ty.Integer) o ≡ some v → o ≡ some v
@@ -223,7 +193,7 @@ plain (some n) v e = e
 checked-in : (m : Option ℤ) (z : ℤ) (a : Interval) (v : ℕ) → ((u : ℤ) → m ≡ some u → (z ≡ u) × (mag u < 2 ^ 127)) → z ∈ a
     → mapped (residue 128) m ≡ some v → (signed 128 v) ∈ a
 checked-in m z a v is i e =
-    let (u, d, c) = mapped-is (residue 128) m v e in
+    let (u, d, c) = mapped-is (residue 128) m e in
     let (s, l) = is u d in
     let r : z ≡ signed 128 v = s ∙ sym (signed-residue 128 u (omega arith) l) ∙ ap (signed 128) c in
     subst (λ (j : ℤ). j ∈ a) r i
@@ -262,24 +232,24 @@ module _ (s t : ScalarType) (x y v : ℕ) (p q a : Interval) (l : x < size s) (m
   integer-in bi.Add d e r = checked d (λ i j. fitted (i +ℤ j)) _+ℤ_ (λ u l. fitted-is _ u) (λ f g. add-in p q a _ _ f g r) e
   integer-in bi.Sub d e r = checked d (λ i j. fitted (i -ℤ j)) _-ℤ_ (λ u l. fitted-is _ u) (λ f g. sub-in p q a _ _ f g r) e
   integer-in bi.Mul d e r = checked d (λ i j. fitted (i *ℤ j)) _*ℤ_ (λ u l. fitted-is _ u) (λ f g. mul-in p q a _ _ f g r) e
-  integer-in bi.And d e r = natural d (bitAnd x y) (and-le-l x y) (not-negative p q _ a r) (λ f g. and-in p q a x y f g r) (there e)
-  integer-in bi.Or d e r = absurd (not-there r)
-  integer-in bi.Xor d e r = absurd (not-there r)
-  integer-in bi.ShiftLeft d e r = absurd (not-there r)
-  integer-in bi.ShiftRight d e r = absurd (not-there r)
-  integer-in bi.ArithmeticShiftRight d e r = absurd (not-there r)
-  integer-in bi.Equal d e r = absurd (not-there r)
-  integer-in bi.NotEqual d e r = absurd (not-there r)
-  integer-in bi.LessSigned d e r = absurd (not-there r)
-  integer-in bi.LessUnsigned d e r = absurd (not-there r)
-  integer-in bi.LessEqualSigned d e r = absurd (not-there r)
-  integer-in bi.LessEqualUnsigned d e r = absurd (not-there r)
+  integer-in bi.And d e r = natural d (bitAnd x y) (and-le-l x y) (not-negative p q _ a r) (λ f g. and-in p q a x y f g r) (some-is e)
+  integer-in bi.Or d e r = absurd (none-some r)
+  integer-in bi.Xor d e r = absurd (none-some r)
+  integer-in bi.ShiftLeft d e r = absurd (none-some r)
+  integer-in bi.ShiftRight d e r = absurd (none-some r)
+  integer-in bi.ArithmeticShiftRight d e r = absurd (none-some r)
+  integer-in bi.Equal d e r = absurd (none-some r)
+  integer-in bi.NotEqual d e r = absurd (none-some r)
+  integer-in bi.LessSigned d e r = absurd (none-some r)
+  integer-in bi.LessUnsigned d e r = absurd (none-some r)
+  integer-in bi.LessEqualSigned d e r = absurd (none-some r)
+  integer-in bi.LessEqualUnsigned d e r = absurd (none-some r)
   integer-in bi.DivideSigned d e r = checked d quotient quotZ (λ u l. quotient-is _ _ u) (λ f g. quot-in p q a _ _ f g r) e
   integer-in bi.RemainderSigned d e r = checked d remainder remZ (λ u l. remainder-is _ _ u l) (λ f g. rem-in p q a _ _ f g r) e
   integer-in bi.DivideUnsigned d e r =
-      natural d (x / y) (div-le-self x y) (positive p q _ a r) (λ f g. udiv-in p q a x y f g r) (there (provided-is (ltb 0 y) _ (plain _ v e) .1))
+      natural d (x / y) (div-le-self x y) (positive p q _ a r) (λ f g. udiv-in p q a x y f g r) (some-is (provided-is (ltb 0 y) _ (plain _ v e) .1))
   integer-in bi.RemainderUnsigned d e r =
-      natural d (x % y) (mod-le x y) (positive p q _ a r) (λ f g. urem-in p q a x y f g r) (there (provided-is (ltb 0 y) _ (plain _ v e) .1))
+      natural d (x % y) (mod-le x y) (positive p q _ a r) (λ f g. urem-in p q a x y f g r) (some-is (provided-is (ltb 0 y) _ (plain _ v e) .1))
 
 -- ---- the range of a new node
 
@@ -287,15 +257,15 @@ pub binary-within : (o : Binary) (t ta tb : ScalarType) (ra rb r : Option Interv
     → x < size ta → y < size tb → Within ta x ra → Within tb y rb → ((a : Interval) → ra ≡ some a → Ends a) → evaluateBinary o t x y ≡ some v
     → v < size t → binaryRange t o ra rb ≡ some r → Within t v r
 unfolding binaryRange
-binary-within o ty.Bool ta tb ra rb r x y v d h l m f g ends e k c = rw (← there c) (type-within ty.Bool v k)
+binary-within o ty.Bool ta tb ra rb r x y v d h l m f g ends e k c = rw (← some-is c) (type-within ty.Bool v k)
 binary-within o (ty.Bits w) ta tb ra rb r x y v d h l m f g ends e k c =
-    rw (← there c) (held w v (bothGiven ra rb (bitsRule o)) k (λ a b.
-    let (p, q, i, j, u) = both-given (bitsRule o) ra rb a b in
+    rw (← some-is c) (held w v (bothGiven ra rb (bitsRule o)) k (λ a b.
+    let (p, q, i, j, u) = both-given (bitsRule o) ra rb b in
     bits-low w h ta tb x y v p q a l m (f p i) (g q j) (ends p i) o d e u))
 binary-within o ty.Integer ta tb ra rb r x y v d h l m f g ends e k c =
-    let (a, b, z) = mapped-is some (bothGiven ra rb (integerRule o)) r c in
-    let (p, q, i, j, u) = both-given (integerRule o) ra rb a b in
-    rw (← z) (λ n s. rw (← there s) (integer-in ta tb x y v p q a l m (f p i) (g q j) o d e u))
+    let (a, b, z) = mapped-is some (bothGiven ra rb (integerRule o)) c in
+    let (p, q, i, j, u) = both-given (integerRule o) ra rb b in
+    rw (← z) (λ n s. rw (← some-is s) (integer-in ta tb x y v p q a l m (f p i) (g q j) o d e u))
 
 -- the sign copied from w bits
 extended-in : (w x v : ℕ) (a : Interval) → v ≡ cond (eqb w 0) 0 (residue 128 (extended w x)) → signExtended w ≡ some a → (signed 128 v) ∈ a
@@ -312,25 +282,25 @@ extended-in w x v a e r =
 
 negated-within : (x v : ℕ) (ra r : Option Interval) → Within ty.Integer x ra → mapped (residue 128) (fitted (negℤ (signed 128 x))) ≡ some v
     → negatedRange ra ≡ some r → Within ty.Integer v r
-negated-within x v none r f e c = absurd (not-there c)
+negated-within x v none r f e c = absurd (none-some c)
 negated-within x v (some p) r f e c =
-    let (a, b, z) = mapped-is some (negInterval p) r c in
-    rw (← z) (λ n s. rw (← there s) (checked-in _ _ a v (fitted-is (negℤ (signed 128 x))) (neg-in p a (signed 128 x) (f p refl) b) e))
+    let (a, b, z) = mapped-is some (negInterval p) c in
+    rw (← z) (λ n s. rw (← some-is s) (checked-in _ _ a v (fitted-is (negℤ (signed 128 x))) (neg-in p a (signed 128 x) (f p refl) b) e))
 
 pub unary-within : (o : Unary) (t s : ScalarType) (ra r : Option Interval) (x u v : ℕ) → unaryTyped o s t ≡ true
     → Within s x ra → evaluateUnary o x ≡ some u → v ≡ reduced t u → v < size t → unaryRange t o ra ≡ some r → Within t v r
 unfolding unaryRange evaluateUnary
-unary-within un.BoolNot t s ra r x u v d f e q k c = rw (← there c) (type-within t v k)
-unary-within un.BitNot t s ra r x u v d f e q k c = rw (← there c) (type-within t v k)
+unary-within un.BoolNot t s ra r x u v d f e q k c = rw (← some-is c) (type-within t v k)
+unary-within un.BitNot t s ra r x u v d f e q k c = rw (← some-is c) (type-within t v k)
 unary-within un.Negate t s ra r x u v d f e q k c =
     let b = tests (sameType s ty.Integer) (sameType t ty.Integer) d in
     let i : s ≡ ty.Integer = same-type s ty.Integer (b .0) in
     let j : t ≡ ty.Integer = same-type t ty.Integer (b .1) in
     let n : v ≡ u = rw j at q in
     rw (j, n) (negated-within x u ra r (rw i at f) e c)
-unary-within (un.Truncate w) t s ra r x u v d f e q k c = rw (← there c) (type-within t v k)
-unary-within (un.SignExtend w) ty.Bool s ra r x u v d f e q k c = rw (← there c) (type-within ty.Bool v k)
-unary-within (un.SignExtend w) (ty.Bits n) s ra r x u v d f e q k c = rw (← there c) (type-within (ty.Bits n) v k)
-unary-within (un.SignExtend w) ty.Integer s ra r x u v d f e q k c = rw (← there c) (λ a b. extended-in w x v a (q ∙ sym (there e)) b)
-unary-within (un.LeadingZeros w) t s ra r x u v d f e q k c = rw (← there c) (type-within t v k)
-unary-within (un.TrailingZeros w) t s ra r x u v d f e q k c = rw (← there c) (type-within t v k)
+unary-within (un.Truncate w) t s ra r x u v d f e q k c = rw (← some-is c) (type-within t v k)
+unary-within (un.SignExtend w) ty.Bool s ra r x u v d f e q k c = rw (← some-is c) (type-within ty.Bool v k)
+unary-within (un.SignExtend w) (ty.Bits n) s ra r x u v d f e q k c = rw (← some-is c) (type-within (ty.Bits n) v k)
+unary-within (un.SignExtend w) ty.Integer s ra r x u v d f e q k c = rw (← some-is c) (λ a b. extended-in w x v a (q ∙ sym (some-is e)) b)
+unary-within (un.LeadingZeros w) t s ra r x u v d f e q k c = rw (← some-is c) (type-within t v k)
+unary-within (un.TrailingZeros w) t s ra r x u v d f e q k c = rw (← some-is c) (type-within t v k)

@@ -5,24 +5,28 @@ use mathlib.Core.List.{List}
 use mathlib.Core.Logic.{_⊎_, inl, ⊎-elim}
 use mathlib.Core.Option.{Option, some}
 use Prim.Native.Nat.{ℕ, zero, suc, _-_, _≤_, _<_}
+use native.Mathlib.Decide.{decLt}
 use native.Mathlib.Omega.{arith}
-use borrow.Author.Tests.{ne-eqb, lt-ltb, le-ltb, le-leb}
+use borrow.Author.Tests.{ne-eqb, lt-ltb, le-ltb, le-leb, lt-leb}
+use lib.Dec.{lit<}
+use lib.ListN.{getD}
 use Rattle.word.proofs.Integer.{lt-or-ge}
 use Rattle.range.specs.Interval.{Interval}
 use Rattle.range.specs.declared.ScalarType.{ScalarType}
-use Rattle.evaluate.specs.Operator.{typeWidth}
-use Rattle.graph.specs.Layout.{wordAt, countOf}
+use Rattle.evaluate.specs.Operator.{unaryCode, binaryCode, typeWidth}
+use Rattle.graph.specs.Layout.{KEY, wordAt, countOf}
 use Rattle.graph.specs.Node as node
-use Rattle.graph.specs.Node.{Op, typeAt, rangeAt, operationOf, operationAt, aliasAt}
+use Rattle.graph.specs.Node.{Op, Parts, typeAt, rangeAt, operationOf, operationAt, nodeAt, aliasAt, opCode, opX, opY, opZ, wordsOf}
 use Rattle.graph.proofs.Grown.{Graph, graph-facts, start-le}
 use Rattle.graph.proofs.Nodes.{Holds}
-use Rattle.retain.specs.Retain.{isKept, hasFirst, hasSecond, keptBelow, newId, retained, renamed}
+use Rattle.retain.specs.Retain.{isKept, hasFirst, hasSecond, keptBelow, newId, through, movedWords, retained, renamed}
 use Rattle.retain.proofs.Operands.{operator, Choice, first-below, second-below, first-kept, second-kept}
-use Rattle.retain.proofs.Laws.{id-kept, kept-less, retained-count, retained-node}
+use Rattle.retain.proofs.Laws.{id-kept, kept-mono, kept-less, new-apart, retained-count, retained-word, retained-node}
 use Rattle.retain.proofs.Grown.{Origin, origin-of, retained-graph}
 use Rattle.native.specs.Typing.{unaryTyped, concatTyped}
 use Rattle.meaning.specs.Value.{Env, size, operationMeans, value}
 use Rattle.meaning.proofs.Values.{value-step}
+use Rattle.graph.proofs.Appended.{wordsFor, Exact, Keys, unary-code, binary-code}
 use Rattle.meaning.proofs.Invariant.{storedTyped, Typed, Refined, Ends, Within, Leads, Inv, inv-step}
 
 -- ---- an operation with its operands renumbered
@@ -98,6 +102,95 @@ refined-renamed ρ g h t f (node.concat i j v) e w = tt
 refined-renamed ρ g h t f (node.unary u i) e w = tt
 refined-renamed ρ g h t f (node.binary b i j) e w = tt
 
+-- ---- words and keys
+
+-- another function takes the operands back
+renamed-back : (f h : ℕ → ℕ) (o : Op) → Operands (λ i. h (f i) ≡ i) o → renamed h (renamed f o) ≡ o
+renamed-back f h (node.constant c) e = refl
+renamed-back f h (node.input i) e = refl
+renamed-back f h (node.refine i) e = ap node.refine e
+renamed-back f h (node.effect i) e = refl
+renamed-back f h (node.slice i o w) e = ap (λ (j : ℕ). node.slice j o w) e
+renamed-back f h (node.concat i j v) e = λ k. node.concat (e .0 k) (e .1 k) v
+renamed-back f h (node.unary u i) e = ap (node.unary u) e
+renamed-back f h (node.binary b i j) e = λ k. node.binary b (e .0 k) (e .1 k)
+
+-- the words of a renamed operation
+module _ (f : ℕ → ℕ) where
+  code-renamed : (o : Op) → opCode (renamed f o) ≡ opCode o
+  code-renamed (node.constant c) = refl
+  code-renamed (node.input i) = refl
+  code-renamed (node.refine i) = refl
+  code-renamed (node.effect i) = refl
+  code-renamed (node.slice i o w) = refl
+  code-renamed (node.concat i j v) = refl
+  code-renamed (node.unary u i) = refl
+  code-renamed (node.binary b i j) = refl
+
+  parameter-renamed : (o : Op) → opZ (renamed f o) ≡ opZ o
+  parameter-renamed (node.constant c) = refl
+  parameter-renamed (node.input i) = refl
+  parameter-renamed (node.refine i) = refl
+  parameter-renamed (node.effect i) = refl
+  parameter-renamed (node.slice i o w) = refl
+  parameter-renamed (node.concat i j v) = refl
+  parameter-renamed (node.unary u i) = refl
+  parameter-renamed (node.binary b i j) = refl
+
+  first-renamed : (o : Op) → through f (hasFirst (opCode o)) (opX o) ≡ opX (renamed f o)
+  first-renamed (node.constant c) = refl
+  first-renamed (node.input i) = refl
+  first-renamed (node.refine i) = refl
+  first-renamed (node.effect i) = refl
+  first-renamed (node.slice i o w) = refl
+  first-renamed (node.concat i j v) = refl
+  first-renamed (node.unary u i) =
+      let c = unary-code u in rw (ne-eqb (unaryCode u) 2 (λ e. omega arith), le-leb 4 (unaryCode u) (omega arith))
+  first-renamed (node.binary b i j) =
+      let c = binary-code b in rw (ne-eqb (binaryCode b) 2 (λ e. omega arith), le-leb 4 (binaryCode b) (omega arith))
+
+  second-renamed : (o : Op) → through f (hasSecond (opCode o)) (opY o) ≡ opY (renamed f o)
+  second-renamed (node.constant c) = refl
+  second-renamed (node.input i) = refl
+  second-renamed (node.refine i) = refl
+  second-renamed (node.effect i) = refl
+  second-renamed (node.slice i o w) = refl
+  second-renamed (node.concat i j v) = refl
+  second-renamed (node.unary u i) =
+      let c = unary-code u in rw (ne-eqb (unaryCode u) 5 (λ e. omega arith), lt-leb 20 (unaryCode u) (omega arith))
+  second-renamed (node.binary b i j) =
+      let c = binary-code b in rw (ne-eqb (binaryCode b) 5 (λ e. omega arith), le-leb 20 (binaryCode b) (omega arith))
+
+  -- the words of a node that has those of its parts, moved
+  moved-exact : (g : List ℕ) (n : ℕ) (p : Parts) → ((k : ℕ) → k < KEY → wordAt g n k ≡ getD (wordsFor p) k 0)
+      → (k : ℕ) → k < KEY → getD (movedWords f g n) k 0 ≡ getD (wordsOf (p .type) (p .range) (renamed f (p .operation))) k 0
+  unfolding movedWords wordsOf
+  moved-exact g n p e zero h = e 0 (lit< tt)
+  moved-exact g n p e (suc zero) h = e 1 (lit< tt)
+  moved-exact g n p e (suc (suc zero)) h = e 2 (lit< tt)
+  moved-exact g n p e (suc (suc (suc zero))) h = e 3 (lit< tt)
+  moved-exact g n p e (suc (suc (suc (suc zero)))) h = e 4 (lit< tt)
+  moved-exact g n p e (suc (suc (suc (suc (suc zero))))) h = e 5 (lit< tt)
+  moved-exact g n p e (suc (suc (suc (suc (suc (suc zero)))))) h = e 6 (lit< tt)
+  moved-exact g n p e (suc (suc (suc (suc (suc (suc (suc zero))))))) h = e 7 (lit< tt) ∙ sym (code-renamed (p .operation))
+  moved-exact g n p e (suc (suc (suc (suc (suc (suc (suc (suc zero)))))))) h =
+      (λ i. through f (hasFirst (e 7 (lit< tt) i)) (e 8 (lit< tt) i)) ∙ first-renamed (p .operation)
+  moved-exact g n p e (suc (suc (suc (suc (suc (suc (suc (suc (suc zero))))))))) h =
+      (λ i. through f (hasSecond (e 7 (lit< tt) i)) (e 9 (lit< tt) i)) ∙ second-renamed (p .operation)
+  moved-exact g n p e (suc (suc (suc (suc (suc (suc (suc (suc (suc (suc zero)))))))))) h = e 10 (lit< tt) ∙ sym (parameter-renamed (p .operation))
+  moved-exact g n p e (suc (suc (suc (suc (suc (suc (suc (suc (suc (suc (suc k))))))))))) h = absurd (omega arith)
+
+-- the kept node at a place, 0 past the last
+abbrev origin : (keep : List ℕ) (c j : ℕ) → Dec (j < keptBelow keep c) → ℕ
+origin keep c j (yes l) = origin-of keep c j l .old
+origin keep c j (no l) = 0
+
+origin-is : (keep : List ℕ) (c n : ℕ) → n < c → isKept keep n ≡ true → (d : Dec (keptBelow keep n < keptBelow keep c)) → origin keep c (keptBelow keep n) d ≡ n
+origin-is keep c n l e (yes h) =
+    let o = origin-of keep c (keptBelow keep n) h in
+    new-apart keep (o .old) n (o .kept) e (id-kept keep (o .old) (o .kept) ∙ o .new ∙ sym (id-kept keep n e))
+origin-is keep c n l e (no h) = absurd (h (kept-less keep n c l e))
+
 -- ---- what is left
 
 module _ (ρ : Env) {g keep mapping : List ℕ} (i : Inv ρ g) (f : Graph g) (d : Choice g keep mapping) where
@@ -155,10 +248,58 @@ module _ (ρ : Env) {g keep mapping : List ℕ} (i : Inv ρ g) (f : Graph g) (d 
   moved P n l e h =
       operands-map (λ j. (j < n) × (isKept keep j ≡ true)) P (λ j p. let b = p .0 in h j (omega arith) (p .1)) (operationAt g n) (operands n l e)
 
+  -- ---- keys
+
+  -- a kept node whole
+  node-at : (n : ℕ) → n < countOf g → isKept keep n ≡ true
+      → nodeAt (retained g keep) (keptBelow keep n) ≡ record { type = typeAt g n; range = rangeAt g n; operation = renamed (newId keep) (operationAt g n) }
+  node-at n l e = let h = at n l e in λ k. record { type = h .type k; range = h .range k; operation = h .operation k }
+
+  exact-at : (n : ℕ) → n < countOf g → isKept keep n ≡ true → Exact (retained g keep) (keptBelow keep n)
+  exact-at n l e k h =
+      retained-word g keep f n l e k (omega arith) ∙ moved-exact (newId keep) g n (nodeAt g n) (i .exact n l) k h
+      ∙ ap (λ (p : Parts). getD (wordsFor p) k 0) (sym (node-at n l e))
+
+  -- the mapping taken back
+  back : ℕ → ℕ
+  back j = origin keep (countOf g) j (decLt j (keptBelow keep (countOf g)))
+
+  operation-back : (n : ℕ) → n < countOf g → isKept keep n ≡ true → renamed back (renamed (newId keep) (operationAt g n)) ≡ operationAt g n
+  unfolding back
+  operation-back n l e =
+      renamed-back (newId keep) back (operationAt g n)
+      (moved (λ j. back (newId keep j) ≡ j) n l e
+      (λ j b k. ap back (id-kept keep j k) ∙ origin-is keep (countOf g) j b k (decLt (keptBelow keep j) (keptBelow keep (countOf g)))))
+
+  -- nodes that are equal were equal
+  same-node : (n m : ℕ) → n < countOf g → m < countOf g → isKept keep n ≡ true → isKept keep m ≡ true
+      → nodeAt (retained g keep) (keptBelow keep n) ≡ nodeAt (retained g keep) (keptBelow keep m) → nodeAt g n ≡ nodeAt g m
+  same-node n m ln lm kn km e =
+      let q = sym (node-at n ln kn) ∙ e ∙ node-at m lm km in
+      let o : operationAt g n ≡ operationAt g m =
+      sym (operation-back n ln kn) ∙ ap (λ (p : Parts). renamed back (p .operation)) q ∙ operation-back m lm km in
+      λ k. record { type = q k .type; range = q k .range; operation = o k }
+
+  keys-left : Keys (retained g keep)
+  keys-left n m a b e =
+      go (origin-of keep (countOf g) n (omega (arith, retained-count g keep f))) (origin-of keep (countOf g) m (omega (arith, retained-count g keep f)))
+    where
+      go : Origin keep (countOf g) n → Origin keep (countOf g) m → ⊥
+      go p q =
+          ⊎-elim
+          (λ (l : p .old < q .old).
+          i .keys (p .old) (q .old) l (q .below)
+          (same-node (p .old) (q .old) (p .below) (q .below) (p .kept) (q .kept)
+          (ap (nodeAt (retained g keep)) (p .new) ∙ e ∙ ap (nodeAt (retained g keep)) (sym (q .new)))))
+          (λ (l : q .old ≤ p .old). omega (arith, a, p .new, q .new, kept-mono keep (q .old) (p .old) l)) (lt-or-ge (p .old) (q .old))
+
   pub retain-inv : Inv ρ (retained g keep)
   retain-inv = record {
+    graph = retained-graph f d;
     size = left .length;
     few = left .count;
+    exact = each (Exact (retained g keep)) exact-at;
+    keys = keys-left;
     below = λ n l. start-le left n l;
     width = each (λ j. typeWidth (typeAt (retained g keep) j) ≤ 128) (λ n l e. rw (at n l e .type) (i .width n l));
     typed =

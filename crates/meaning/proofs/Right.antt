@@ -1,7 +1,7 @@
 -- What binary decides of ranges, of one node twice and of a constant on the right claims what is asked of it. Assumes nothing.
 use mathlib.Core.Path.{_≡_, refl, sym, ap, _∙_, subst}
 use mathlib.Core.Bool.{Bool, true, false, cond, false≢true}
-use mathlib.Core.List.{List, [], _∷_}
+use mathlib.Core.List.{List}
 use mathlib.Core.Logic.{_⊎_, inl, inr, ⊎-elim}
 use mathlib.Core.Option.{Option, none, some}
 use Prim.Native.Nat.{ℕ, _-_, _^_, _≤_, _<_}
@@ -15,43 +15,35 @@ use Rattle.word.specs.Value.{provided, only}
 use Rattle.range.specs.Interval.{Interval, both}
 use Rattle.range.specs.declared.ScalarType.{ScalarType}
 use Rattle.range.specs.declared.ScalarType.the-variants as ty
-use Rattle.range.proofs.Sound.{tests, either}
+use Rattle.range.proofs.Sound.{tests}
+use Rattle.range.proofs.Answers.{none-some, some-is, provided-is}
 use Rattle.evaluate.specs.Evaluate.{fromBool, reduced, shiftWidth, binaryValue, evaluateBinary}
 use Rattle.evaluate.specs.Operator.{typeWidth}
 use Rattle.evaluate.specs.declared.Binary.{Binary}
 use Rattle.evaluate.specs.declared.Binary.the-variants as bi
-use Rattle.graph.specs.Layout.{countOf}
-use Rattle.graph.specs.Node as node
 use Rattle.graph.specs.Node.{typeAt, rangeAt}
 use Rattle.graph.specs.Insert.{literal}
 use Rattle.fold.specs.Operator.{zeroKeeps, zeroMakesZero, bitwise}
 use Rattle.fold.specs.Range.{bothGiven, comparison}
-use Rattle.fold.specs.Shape.{given, sameType, sameBinary, isAny, mask, Chain, chainAt}
-use Rattle.native.specs.Typing.{isNumber, sameTypes, arithmetic, shift}
+use Rattle.fold.specs.Shape.{sameType, sameBinary, isAny, mask, Chain, chainAt}
+use Rattle.native.specs.Typing.{isNumber, sameTypes, shift}
 use Rattle.native.specs.Typing as typing
 use Rattle.plan.specs.Plan as plan
 use Rattle.plan.specs.Plan.{Plan}
-use Rattle.plan_binary.specs.Binary.{truthPlan, comparedPlan, twice, zeroPlan, onesPlan, orPlan, rightPlan, mergedPlan, maskTwice, maskPlan}
+use Rattle.plan_binary.specs.Binary.{truthPlan, comparedPlan, twice, zeroPlan, onesPlan, rightPlan, mergedPlan, maskTwice, maskPlan}
 use Rattle.build.specs.Build.{binary}
 use Rattle.meaning.specs.Value.{Env, size, ofType, valued, andThen, binaryMeans, value}
-use Rattle.meaning.proofs.Values.{some-is, typed-is, typed-of, then-is}
+use Rattle.meaning.proofs.Answers.{mapped-is, both-given, each-provided, each-or, binary-is, Every, of-any, by-test, Each, each-none, each-some, each-given}
+use Rattle.meaning.proofs.Values.{typed-is, truth-small}
 use Rattle.meaning.proofs.Invariant.{shiftable, storedTyped, Inv}
-use Rattle.meaning.proofs.Constants.{reduced-same, valued-same}
+use Rattle.meaning.proofs.Constants.{reduced-same, valued-same, low-valued, size-pos}
 use Rattle.meaning.proofs.Tree.{Callable}
-use Rattle.meaning.proofs.Plans.{Claim}
-use Rattle.meaning.proofs.Views.{same-type, value-small, value-pattern}
-use Rattle.meaning.proofs.Ranges.{not-there, there, provided-is, mapped-is, both-given}
-use Rattle.meaning.proofs.Field.{means-at, below-at, typed-at, literal-value, operands, binary-is, Linked, linked}
+use Rattle.meaning.proofs.Plans.{Claim, bits-number}
+use Rattle.meaning.proofs.Views.{same-type, value-small, value-pattern, same-types, arithmetic-types}
+use Rattle.meaning.proofs.Field.{literal-value, operands, Linked, linked, chain-here, chain-typed, chain-means}
 use Rattle.meaning.proofs.Compared.{comparison-sound, sub-twice, xor-twice, and-twice, or-twice, equal-twice, not-equal-twice, less-signed-twice, less-unsigned-twice, at-most-signed-twice, at-most-unsigned-twice, and-zero, mul-zero, or-zero, xor-zero, shift-left-zero, shift-right-zero, add-zero, sub-zero, arithmetic-zero, mask-is, and-ones, or-ones, and-true, or-true, and-merged, or-merged, xor-merged, and-of-or-merged}
 
 -- ---- types of operands
-
--- one type
-same-types : (a b t : ScalarType) → sameTypes a b t ≡ true → (a ≡ t) × (b ≡ t)
-same-types a b t e = let p = tests (sameType a t) (sameType b t) e in (same-type a t (p .0), same-type b t (p .1))
-
-arithmetic-types : (a b t : ScalarType) → arithmetic a b t ≡ true → (a ≡ t) × (b ≡ t)
-arithmetic-types a b t e = same-types a b t (tests (isNumber t) (sameTypes a b t) e .1)
 
 -- the left operand of a shift
 shift-type : (a b t : ScalarType) → shift a b t ≡ true → a ≡ t
@@ -65,36 +57,25 @@ compared-types a b t e = let p = tests (sameType t ty.Bool) (sameType a b) e in 
 compares : (o : Binary) (c d : Interval) (truth : Bool) → comparison o c d ≡ some truth → (a b t : ScalarType) → storedTyped o a b t ≡ true
     → (t ≡ ty.Bool) × (a ≡ b)
 unfolding comparison
-compares bi.Add c d truth e a b t s = absurd (not-there e)
-compares bi.Sub c d truth e a b t s = absurd (not-there e)
-compares bi.Mul c d truth e a b t s = absurd (not-there e)
-compares bi.And c d truth e a b t s = absurd (not-there e)
-compares bi.Or c d truth e a b t s = absurd (not-there e)
-compares bi.Xor c d truth e a b t s = absurd (not-there e)
-compares bi.ShiftLeft c d truth e a b t s = absurd (not-there e)
-compares bi.ShiftRight c d truth e a b t s = absurd (not-there e)
-compares bi.ArithmeticShiftRight c d truth e a b t s = absurd (not-there e)
+compares bi.Add c d truth e a b t s = absurd (none-some e)
+compares bi.Sub c d truth e a b t s = absurd (none-some e)
+compares bi.Mul c d truth e a b t s = absurd (none-some e)
+compares bi.And c d truth e a b t s = absurd (none-some e)
+compares bi.Or c d truth e a b t s = absurd (none-some e)
+compares bi.Xor c d truth e a b t s = absurd (none-some e)
+compares bi.ShiftLeft c d truth e a b t s = absurd (none-some e)
+compares bi.ShiftRight c d truth e a b t s = absurd (none-some e)
+compares bi.ArithmeticShiftRight c d truth e a b t s = absurd (none-some e)
 compares bi.Equal c d truth e a b t s = compared-types a b t s
 compares bi.NotEqual c d truth e a b t s = compared-types a b t s
 compares bi.LessSigned c d truth e a b t s = compared-types a b t s
 compares bi.LessUnsigned c d truth e a b t s = compared-types a b t s
 compares bi.LessEqualSigned c d truth e a b t s = compared-types a b t s
 compares bi.LessEqualUnsigned c d truth e a b t s = compared-types a b t s
-compares bi.DivideSigned c d truth e a b t s = absurd (not-there e)
-compares bi.RemainderSigned c d truth e a b t s = absurd (not-there e)
-compares bi.DivideUnsigned c d truth e a b t s = absurd (not-there e)
-compares bi.RemainderUnsigned c d truth e a b t s = absurd (not-there e)
-
--- what holds of each of some operators holds of any of them
-abbrev Each : (Binary → Type 0) → List Binary → Type 0
-Each P [] = Unit {0}
-Each P (a ∷ rest) = P a × Each P rest
-
-any-each : (P : Binary → Type 0) (os : List Binary) → Each P os → (o : Binary) → isAny os o ≡ true → P o
-any-each P [] h o e = absurd (false≢true e)
-any-each P (a ∷ rest) h o e =
-    ⊎-elim (λ (q : sameBinary o a ≡ true). subst P (sym (binary-is o a q)) (h .0)) (λ (q : isAny rest o ≡ true). any-each P rest (h .1) o q)
-    (either (sameBinary o a) (isAny rest o) e)
+compares bi.DivideSigned c d truth e a b t s = absurd (none-some e)
+compares bi.RemainderSigned c d truth e a b t s = absurd (none-some e)
+compares bi.DivideUnsigned c d truth e a b t s = absurd (none-some e)
+compares bi.RemainderUnsigned c d truth e a b t s = absurd (none-some e)
 
 -- ---- 0 on the right
 
@@ -102,11 +83,6 @@ shift-width : (t : ScalarType) → typeWidth t ≤ 128 → shiftWidth t ≤ 128
 shift-width ty.Bool h = omega arith
 shift-width (ty.Bits w) h = h
 shift-width ty.Integer h = omega arith
-
-size-pos : (t : ScalarType) → 0 < size t
-size-pos ty.Bool = omega arith
-size-pos (ty.Bits w) = pow-pos w
-size-pos ty.Integer = pow-pos 128
 
 same-size : {a t : ScalarType} → a ≡ t → (x : ℕ) → x < size a → x < size t
 same-size e x h = subst (λ (s : ScalarType). x < size s) e h
@@ -125,11 +101,11 @@ Keeps o =
     ((a b t : ScalarType) → storedTyped o a b t ≡ true → (x : ℕ) → x < size a → x < size t)
     × ((t : ScalarType) → typeWidth t ≤ 128 → (x : ℕ) → x < size t → x < 2 ^ 128 → evaluateBinary o t x 0 ≡ some x)
 
-keeps : Each Keeps zeroKeeps
+keeps : Every Keeps zeroKeeps
 keeps = (
-  (λ a b t e. same-size (arithmetic-types a b t e .0), λ t h. add-zero t),
+  (λ a b t e. same-size (arithmetic-types a b t e .1), λ t h. add-zero t),
   (
-    (λ a b t e. same-size (arithmetic-types a b t e .0), λ t h. sub-zero t),
+    (λ a b t e. same-size (arithmetic-types a b t e .1), λ t h. sub-zero t),
     (
       (λ a b t e. same-size (same-types a b t e .0), λ t h x s m. or-zero t x s),
       (
@@ -150,7 +126,7 @@ keeps = (
 abbrev MakesZero : Binary → Type 0
 MakesZero o = (t : ScalarType) (x : ℕ) → evaluateBinary o t x 0 ≡ some 0
 
-makes-zero : Each MakesZero zeroMakesZero
+makes-zero : Every MakesZero zeroMakesZero
 makes-zero = (and-zero, (mul-zero, tt))
 
 -- ---- masks of masks
@@ -161,14 +137,14 @@ Merges o =
     ((a b t : ScalarType) → storedTyped o a b t ≡ sameTypes a b t)
     × ((t : ScalarType) (x c d v k : ℕ) → evaluateBinary o t x c ≡ some v → evaluateBinary o t c d ≡ some k → evaluateBinary o t v d ≡ evaluateBinary o t x k)
 
-merges : Each Merges bitwise
+merges : Every Merges bitwise
 merges = ((λ a b t. refl, and-merged), ((λ a b t. refl, or-merged), ((λ a b t. refl, xor-merged), tt)))
 
 -- a result of type Bits(w) is below 2 ^ w
 evaluated-small : (w : ℕ) (o : Binary) (x y v : ℕ) → evaluateBinary o (ty.Bits w) x y ≡ some v → v < 2 ^ w
 unfolding evaluateBinary
 evaluated-small w o x y v e =
-    let s = mapped-is (reduced (ty.Bits w)) (binaryValue o (ty.Bits w) x y) v e in
+    let s = mapped-is (reduced (ty.Bits w)) (binaryValue o (ty.Bits w) x y) e in
     subst (λ (n : ℕ). n < 2 ^ w) (s .2) (mod-lt (s .0) (pow-pos w))
 
 and-is : (t : ScalarType) (x y : ℕ) → evaluateBinary bi.And t x y ≡ some (reduced t (bitAnd x y))
@@ -178,32 +154,11 @@ and-is t x y = refl
 bits-typed : (w : ℕ) → sameTypes (ty.Bits w) (ty.Bits w) (ty.Bits w) ≡ true
 bits-typed w = rw (eq-eqb w w refl)
 
--- node n is an operation by a constant
-module _ {ρ : Env} {g : List ℕ} (i : Inv ρ g) (n : ℕ) (l : n < countOf g) (c : Chain) (f : Linked g n c) where
-  chain-here : (c .base < countOf g) × (f .constant < countOf g)
-  chain-here = let b = below-at ρ g i n l (node.binary (c .op) (c .base) (f .constant)) (f .operation) in (omega arith, omega arith)
-
-  chain-typed : storedTyped (c .op) (typeAt g (c .base)) (typeAt g (f .constant)) (typeAt g n) ≡ true
-  chain-typed = typed-at ρ g i n l (node.binary (c .op) (c .base) (f .constant)) (f .operation)
-
-  chain-means : (v : ℕ) → value ρ g n ≡ some v
-      → (x : ℕ) × (value ρ g (c .base) ≡ some x) × (evaluateBinary (c .op) (typeAt g n) x (c .value) ≡ some v)
-  chain-means v e =
-      let t = typeAt g n in
-      let s = operands ρ g t (c .op) (c .base) (f .constant) v (means-at ρ g i n l v e (node.binary (c .op) (c .base) (f .constant)) (f .operation)) in
-      let y : s .y ≡ c .value = some-is (sym (s .right) ∙ literal-value ρ g i (f .constant) (c .value) (chain-here .1) (f .has)) in
-      let q = then-is (evaluateBinary (c .op) t (s .x) (s .y)) (ofType t) v (s .means) in
-      (s .x, s .left, ap (evaluateBinary (c .op) t (s .x)) (sym y) ∙ q .1 ∙ ap some (sym (typed-is t (q .0) v (q .2) .0)))
-
 -- ---- what the operator gives
 
 truth-is : (b : Option Bool) (p : Plan) → truthPlan b ≡ some p → (truth : Bool) × (b ≡ some truth) × (plan.constant ty.Bool (fromBool truth) ≡ p)
-truth-is none p e = absurd (not-there e)
-truth-is (some truth) p e = (truth, refl, there e)
-
-truth-small : (b : Bool) → fromBool b < 2
-truth-small true = omega arith
-truth-small false = omega arith
+truth-is none p e = absurd (none-some e)
+truth-is (some truth) p e = (truth, refl, some-is e)
 
 module _ {ρ : Env} {g : List ℕ} (i : Inv ρ g) (t : ScalarType) (o : Binary) (l r : ℕ) (k : Callable g (binary t o l r)) where
   -- what is asked for
@@ -260,7 +215,7 @@ module _ {ρ : Env} {g : List ℕ} (i : Inv ρ g) (t : ScalarType) (o : Binary) 
       → Claim ρ g t (binaryMeans t o (value ρ g l) (value ρ g r)) p
   compared-claim p e =
       let d = truth-is (bothGiven (rangeAt g l) (rangeAt g r) (comparison o)) p e in
-      let f = both-given (comparison o) (rangeAt g l) (rangeAt g r) (d .0) (d .1) in
+      let f = both-given (comparison o) (rangeAt g l) (rangeAt g r) (d .1) in
       let s = compares o (f .0) (f .1) (d .0) (f .4) (typeAt g l) (typeAt g r) t (k .3) in
       subst Asked (d .2)
       (truth-claim (fromBool (d .0)) (truth-small (d .0)) (s .0)
@@ -299,9 +254,9 @@ module _ {ρ : Env} {g : List ℕ} (i : Inv ρ g) (t : ScalarType) (o : Binary) 
     where
       go : (a : Bool) → sameBinary o bi.And ≡ a → (b : Bool) → sameBinary o bi.Or ≡ b → cond a (some u) (only b v) ≡ some p
           → ((o ≡ bi.And) × (u ≡ p)) ⊎ ((o ≡ bi.Or) × (v ≡ p))
-      go true q b d e = inl (binary-is o bi.And q, there e)
-      go false q true d e = inr (binary-is o bi.Or d, there e)
-      go false q false d e = absurd (not-there e)
+      go true q b d e = inl (binary-is o bi.And q, some-is e)
+      go false q true d e = inr (binary-is o bi.Or d, some-is e)
+      go false q false d e = absurd (none-some e)
 
   module _ (c : ℕ) (lit : literal g r ≡ some c) where
     -- what the operator gives of a value and the constant
@@ -311,46 +266,45 @@ module _ {ρ : Env} {g : List ℕ} (i : Inv ρ g) (t : ScalarType) (o : Binary) 
         ap (evaluateBinary o t x) q ∙ h x ex
 
     zero-claim : c ≡ 0 → (p : Plan) → zeroPlan t o l ≡ some p → Asked p
-    zero-claim z p e = go (isAny zeroKeeps o) refl (isAny zeroMakesZero o) refl e
+    zero-claim z =
+        by-test (Each Asked) (isAny zeroKeeps o)
+        (λ q.
+        let h : Keeps o = of-any Keeps zeroKeeps keeps o q in
+        each-some Asked _
+        (keep-claim
+        (by (λ x. x)
+        (λ x ex.
+        h .1 t (k .0) x (h .0 (typeAt g l) (typeAt g r) t (k .3) x (value-small i l (k .1) x ex)) (value-pattern i l (k .1) x ex)))))
+        (λ q.
+        each-provided Asked (isAny zeroMakesZero o)
+        (λ d.
+        let h : MakesZero o = of-any MakesZero zeroMakesZero makes-zero o d in
+        each-some Asked _ (constant-claim 0 (size-pos t) (by (λ x. 0) (λ x ex. h t x)))))
       where
         by : (f : ℕ → ℕ) → ((x : ℕ) → value ρ g l ≡ some x → evaluateBinary o t x 0 ≡ some (f x)) → Gives (λ x y. f x)
         by f h = right-gives f (λ x ex. ap (evaluateBinary o t x) z ∙ h x ex)
 
-        go : (a : Bool) → isAny zeroKeeps o ≡ a → (b : Bool) → isAny zeroMakesZero o ≡ b
-            → cond a (some (plan.identity t l)) (only b (plan.constant t 0)) ≡ some p → Asked p
-        go true q b d e =
-            let h : Keeps o = any-each Keeps zeroKeeps keeps o q in
-            subst Asked (there e)
-            (keep-claim
-            (by (λ x. x)
-            (λ x ex.
-            h .1 t (k .0) x (h .0 (typeAt g l) (typeAt g r) t (k .3) x (value-small i l (k .1) x ex)) (value-pattern i l (k .1) x ex))))
-        go false q true d e =
-            let h : MakesZero o = any-each MakesZero zeroMakesZero makes-zero o d in
-            subst Asked (there e) (constant-claim 0 (size-pos t) (by (λ x. 0) (λ x ex. h t x)))
-        go false q false d e = absurd (not-there e)
-
 pub twice-claim : {ρ : Env} {g : List ℕ} (i : Inv ρ g) (t : ScalarType) (o : Binary) (l r : ℕ) (k : Callable g (binary t o l r)) → l ≡ r → (p : Plan)
     → twice t o l ≡ some p → Claim ρ g t (binaryMeans t o (value ρ g l) (value ρ g r)) p
-twice-claim i t bi.Add l r k q p e = absurd (not-there e)
-twice-claim i t bi.Sub l r k q p e = zero-twice i t bi.Sub l r k q (sub-twice t) (there e)
-twice-claim i t bi.Mul l r k q p e = absurd (not-there e)
-twice-claim i t bi.And l r k q p e = keep-twice i t bi.And l r k q (merges .0) (and-twice t) (there e)
-twice-claim i t bi.Or l r k q p e = keep-twice i t bi.Or l r k q (merges .1 .0) (or-twice t) (there e)
-twice-claim i t bi.Xor l r k q p e = zero-twice i t bi.Xor l r k q (λ x m. xor-twice t x) (there e)
-twice-claim i t bi.ShiftLeft l r k q p e = absurd (not-there e)
-twice-claim i t bi.ShiftRight l r k q p e = absurd (not-there e)
-twice-claim i t bi.ArithmeticShiftRight l r k q p e = absurd (not-there e)
-twice-claim i t bi.Equal l r k q p e = truth-twice i t bi.Equal l r k q 1 (omega arith) equal-twice (k .3) (there e)
-twice-claim i t bi.NotEqual l r k q p e = truth-twice i t bi.NotEqual l r k q 0 (omega arith) not-equal-twice (k .3) (there e)
-twice-claim i t bi.LessSigned l r k q p e = truth-twice i t bi.LessSigned l r k q 0 (omega arith) less-signed-twice (k .3) (there e)
-twice-claim i t bi.LessUnsigned l r k q p e = truth-twice i t bi.LessUnsigned l r k q 0 (omega arith) less-unsigned-twice (k .3) (there e)
-twice-claim i t bi.LessEqualSigned l r k q p e = truth-twice i t bi.LessEqualSigned l r k q 1 (omega arith) at-most-signed-twice (k .3) (there e)
-twice-claim i t bi.LessEqualUnsigned l r k q p e = truth-twice i t bi.LessEqualUnsigned l r k q 1 (omega arith) at-most-unsigned-twice (k .3) (there e)
-twice-claim i t bi.DivideSigned l r k q p e = absurd (not-there e)
-twice-claim i t bi.RemainderSigned l r k q p e = absurd (not-there e)
-twice-claim i t bi.DivideUnsigned l r k q p e = absurd (not-there e)
-twice-claim i t bi.RemainderUnsigned l r k q p e = absurd (not-there e)
+twice-claim i t bi.Add l r k q p e = absurd (none-some e)
+twice-claim i t bi.Sub l r k q p e = zero-twice i t bi.Sub l r k q (sub-twice t) (some-is e)
+twice-claim i t bi.Mul l r k q p e = absurd (none-some e)
+twice-claim i t bi.And l r k q p e = keep-twice i t bi.And l r k q (merges .0) (and-twice t) (some-is e)
+twice-claim i t bi.Or l r k q p e = keep-twice i t bi.Or l r k q (merges .1 .0) (or-twice t) (some-is e)
+twice-claim i t bi.Xor l r k q p e = zero-twice i t bi.Xor l r k q (λ x m. xor-twice t x) (some-is e)
+twice-claim i t bi.ShiftLeft l r k q p e = absurd (none-some e)
+twice-claim i t bi.ShiftRight l r k q p e = absurd (none-some e)
+twice-claim i t bi.ArithmeticShiftRight l r k q p e = absurd (none-some e)
+twice-claim i t bi.Equal l r k q p e = truth-twice i t bi.Equal l r k q 1 (omega arith) equal-twice (k .3) (some-is e)
+twice-claim i t bi.NotEqual l r k q p e = truth-twice i t bi.NotEqual l r k q 0 (omega arith) not-equal-twice (k .3) (some-is e)
+twice-claim i t bi.LessSigned l r k q p e = truth-twice i t bi.LessSigned l r k q 0 (omega arith) less-signed-twice (k .3) (some-is e)
+twice-claim i t bi.LessUnsigned l r k q p e = truth-twice i t bi.LessUnsigned l r k q 0 (omega arith) less-unsigned-twice (k .3) (some-is e)
+twice-claim i t bi.LessEqualSigned l r k q p e = truth-twice i t bi.LessEqualSigned l r k q 1 (omega arith) at-most-signed-twice (k .3) (some-is e)
+twice-claim i t bi.LessEqualUnsigned l r k q p e = truth-twice i t bi.LessEqualUnsigned l r k q 1 (omega arith) at-most-unsigned-twice (k .3) (some-is e)
+twice-claim i t bi.DivideSigned l r k q p e = absurd (none-some e)
+twice-claim i t bi.RemainderSigned l r k q p e = absurd (none-some e)
+twice-claim i t bi.DivideUnsigned l r k q p e = absurd (none-some e)
+twice-claim i t bi.RemainderUnsigned l r k q p e = absurd (none-some e)
 
 -- ---- all ones on the right
 
@@ -393,21 +347,13 @@ module _ {ρ : Env} {g : List ℕ} (i : Inv ρ g) where
       (right-gives i t o l r k c lit (λ x. mask w)
       (λ x ex. (λ j. evaluateBinary (h .0 j) t x (n j)) ∙ or-ones w x (same-size s x (value-small i l (k .1) x ex)) ∙ ap some (sym m)))))
       (ones-facts i t o l r k (plan.identity t l) (plan.constant t (mask w)) p (d .1))
-  ones-claim ty.Integer o l r k c lit p e = absurd (not-there e)
-
-or-is : (a b : Option Plan) (p : Plan) → orPlan a b ≡ some p → (a ≡ some p) ⊎ (b ≡ some p)
-or-is none b p e = inr e
-or-is (some q) b p e = inl e
+  ones-claim ty.Integer o l r k c lit p e = absurd (none-some e)
 
 pub right-claim : {ρ : Env} {g : List ℕ} (i : Inv ρ g) (t : ScalarType) (o : Binary) (l r : ℕ) (k : Callable g (binary t o l r)) (c : ℕ)
     → literal g r ≡ some c → (p : Plan) → rightPlan t o l r c ≡ some p → Claim ρ g t (binaryMeans t o (value ρ g l) (value ρ g r)) p
-right-claim i t o l r k c lit p e =
-    ⊎-elim
-    (λ (h : provided (eqb c 0) (zeroPlan t o l) ≡ some p).
-    let d = provided-is (eqb c 0) (zeroPlan t o l) h in
-    zero-claim i t o l r k c lit (eqb-true c 0 (d .0)) p (d .1))
-    (λ (h : onesPlan t o l r c ≡ some p). ones-claim i t o l r k c lit p h)
-    (or-is (provided (eqb c 0) (zeroPlan t o l)) (onesPlan t o l r c) p e)
+right-claim i t o l r k c lit =
+    each-or (Asked i t o l r k) (provided (eqb c 0) (zeroPlan t o l))
+    (each-provided (Asked i t o l r k) (eqb c 0) (λ q. zero-claim i t o l r k c lit (eqb-true c 0 q))) (ones-claim i t o l r k c lit)
 
 -- ---- an operation by a constant of an operation by a constant
 
@@ -445,7 +391,7 @@ module _ {ρ : Env} {g : List ℕ} (i : Inv ρ g) (w : ℕ) (o : Binary) (l r : 
           let s = pair-types m (subst Merges (sym q) m) in
           let h : u < 2 ^ w = evaluated-small w o (c .value) b u e in
           let h′ : reduced (ty.Bits w) u ≡ u = reduced-same (ty.Bits w) u h in (
-            record { width = k .0; small = mod-lt u (pow-pos w) },
+            bits-number (k .0) u,
             refl,
             k .0,
             chain-here i l (k .1) c f .0,
@@ -467,7 +413,7 @@ module _ {ρ : Env} {g : List ℕ} (i : Inv ρ g) (w : ℕ) (o : Binary) (l r : 
           (λ j. sameTypes (s .2 j) (s .1 j) (ty.Bits w)) ∙ bits-typed w,
         ),
         refl,
-        record { width = k .0; small = mod-lt (bitAnd (c .value) b) (pow-pos w) },
+        bits-number (k .0) (bitAnd (c .value) b),
         bits-typed w,
         λ v e.
             let z = pair-means (s .0) v e in
@@ -479,31 +425,26 @@ module _ {ρ : Env} {g : List ℕ} (i : Inv ρ g) (w : ℕ) (o : Binary) (l r : 
             let first : binaryMeans (ty.Bits w) bi.And (value ρ g (c .base)) (value ρ g r) ≡ some u =
             (λ j. binaryMeans (ty.Bits w) bi.And (z .2 j) (literal-value ρ g i r b (k .2) lit j))
             ∙ ap (λ (a : Option ℕ). andThen a (ofType (ty.Bits w))) (and-is (ty.Bits w) (z .1) b)
-            ∙ typed-of (ty.Bits w) u (mod-lt (bitAnd (z .1) b) (pow-pos w)) in
+            ∙ low-valued w (bitAnd (z .1) b) in
             ap (λ (a : Option ℕ). binaryMeans (ty.Bits w) bi.Or a (some n)) first
             ∙ ap (λ (a : Option ℕ). andThen a (ofType (ty.Bits w))) (sym h ∙ ap (λ (a : Binary). evaluateBinary a (ty.Bits w) (z .0) b) (sym d)) ∙ z .4,
       )
 
   mask-twice : (p : Plan) → maskTwice (ty.Bits w) o r b c ≡ some p → Asked i (ty.Bits w) o l r k p
-  mask-twice p e = go (both (sameBinary (c .op) o) (isAny bitwise o)) refl (both (sameBinary (c .op) bi.Or) (sameBinary o bi.And)) refl e
-    where
-      go : (x : Bool) → both (sameBinary (c .op) o) (isAny bitwise o) ≡ x → (y : Bool) → both (sameBinary (c .op) bi.Or) (sameBinary o bi.And) ≡ y
-          → cond x (some (mergedPlan (ty.Bits w) o (c .base) (evaluateBinary o (ty.Bits w) (c .value) b)))
-          (only y (plan.andOr (ty.Bits w) (c .base) r (bitAnd (c .value) b))) ≡ some p → Asked i (ty.Bits w) o l r k p
-      go true q y d e =
-          let h = tests (sameBinary (c .op) o) (isAny bitwise o) q in
-          subst (Asked i (ty.Bits w) o l r k) (there e) (merged-claim (binary-is (c .op) o (h .0)) (any-each Merges bitwise merges o (h .1)))
-      go false q true d e =
-          let h = tests (sameBinary (c .op) bi.Or) (sameBinary o bi.And) d in
-          subst (Asked i (ty.Bits w) o l r k) (there e) (and-or-claim (binary-is (c .op) bi.Or (h .0)) (binary-is o bi.And (h .1)))
-      go false q false d e = absurd (not-there e)
+  mask-twice =
+      by-test (Each (Asked i (ty.Bits w) o l r k)) (both (sameBinary (c .op) o) (isAny bitwise o))
+      (λ q.
+      let h = tests (sameBinary (c .op) o) (isAny bitwise o) q in
+      each-some (Asked i (ty.Bits w) o l r k) _ (merged-claim (binary-is (c .op) o (h .0)) (of-any Merges bitwise merges o (h .1))))
+      (λ q.
+      each-provided (Asked i (ty.Bits w) o l r k) (both (sameBinary (c .op) bi.Or) (sameBinary o bi.And))
+      (λ d.
+      let h = tests (sameBinary (c .op) bi.Or) (sameBinary o bi.And) d in
+      each-some (Asked i (ty.Bits w) o l r k) _ (and-or-claim (binary-is (c .op) bi.Or (h .0)) (binary-is o bi.And (h .1)))))
 
 pub mask-claim : {ρ : Env} {g : List ℕ} (i : Inv ρ g) (t : ScalarType) (o : Binary) (l r : ℕ) (k : Callable g (binary t o l r)) (c : ℕ)
     → literal g r ≡ some c → (p : Plan) → maskPlan g t o l r c ≡ some p → Claim ρ g t (binaryMeans t o (value ρ g l) (value ρ g r)) p
-mask-claim i ty.Bool o l r k c lit p e = absurd (not-there e)
-mask-claim {ρ} {g} i (ty.Bits w) o l r k c lit p e = go (chainAt g l) refl e
-  where
-    go : (a : Option Chain) → chainAt g l ≡ a → given a (maskTwice (ty.Bits w) o r c) none ≡ some p → Asked i (ty.Bits w) o l r k p
-    go none q e = absurd (not-there e)
-    go (some d) q e = mask-twice i w o l r k c lit d (linked g l d q) p e
-mask-claim i ty.Integer o l r k c lit p e = absurd (not-there e)
+mask-claim i ty.Bool o l r k c lit = each-none _
+mask-claim {ρ} {g} i (ty.Bits w) o l r k c lit =
+    each-given (Asked i (ty.Bits w) o l r k) (chainAt g l) (λ d q. mask-twice i w o l r k c lit d (linked g l d q))
+mask-claim i ty.Integer o l r k c lit = each-none _

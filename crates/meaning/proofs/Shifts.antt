@@ -1,6 +1,6 @@
 -- Shifts in Bits by a constant: what they come to, and that binary's plans for them claim what is asked. Assumes nothing.
 use mathlib.Core.Path.{_≡_, refl, sym, ap, _∙_, subst}
-use mathlib.Core.Bool.{Bool, true, false, cond, false≢true}
+use mathlib.Core.Bool.{Bool, true, cond}
 use mathlib.Core.List.{List}
 use mathlib.Core.Logic.{⊎-elim}
 use mathlib.Core.Option.{Option, none, some}
@@ -11,11 +11,11 @@ use native.Mathlib.Omega.{arith}
 use borrow.Author.Tests.{ltb-true, leb-true, leb-false, le-leb}
 use lib.Dec.{ltb, leb}
 use lib.Pow.{pow-pos, pow-mono, pow-add}
-use Rattle.word.specs.Value.{provided}
 use Rattle.range.specs.Interval.{both, one}
 use Rattle.range.specs.declared.ScalarType.{ScalarType}
 use Rattle.range.specs.declared.ScalarType.the-variants as ty
 use Rattle.range.proofs.Sound.{tests, either}
+use Rattle.range.proofs.Answers.{none-some, some-is, provided-is}
 use Rattle.evaluate.specs.Evaluate.{evaluateBinary}
 use Rattle.evaluate.specs.Operator.{typeWidth}
 use Rattle.evaluate.specs.declared.Binary.{Binary}
@@ -27,37 +27,35 @@ use Rattle.bits.proofs.Bit.{bit-shl, bit-shl-low, bit-mod}
 use Rattle.bits.specs.Bit.{bit}
 use Rattle.bits.proofs.Slices as slices
 use Rattle.graph.specs.Layout.{LIMIT, countOf}
-use Rattle.graph.specs.Node as node
-use Rattle.graph.specs.Node.{Op, typeAt, rangeAt, operationAt}
-use Rattle.graph.specs.Insert.{start, literal}
+use Rattle.graph.specs.Node.{typeAt, rangeAt}
+use Rattle.graph.specs.Insert.{literal}
 use Rattle.fold.specs.Operator.{shifts}
-use Rattle.fold.specs.Shape.{given, sameType, sameBinary, narrowType, fits, isAny, Chain, chainAt, refinedAt, down, origin}
+use Rattle.fold.specs.Shape.{sameType, sameBinary, narrowType, fits, isAny, Chain, chainAt, refinedAt, down, origin}
 use Rattle.native.specs.Typing.{isNumber}
 use Rattle.plan.specs.Plan as plan
 use Rattle.plan.specs.Plan.{Plan}
 use Rattle.plan_binary.specs.Binary.{isShiftedOut, backShift, shiftTwice, shiftBy, shiftPlan}
 use Rattle.meaning.specs.Value.{Env, size, ofType, valued, andThen, binaryMeans, sliceMeans, value}
-use Rattle.meaning.proofs.Values.{none-some, some-is, typed-of}
+use Rattle.meaning.proofs.Constants.{low-valued}
+use Rattle.meaning.proofs.Answers.{given-is, by-test, binary-is, of-any, by-given, Each, each-some}
 use Rattle.meaning.proofs.Invariant.{shiftable, storedTyped, Inv}
-use Rattle.meaning.proofs.Plans.{Covers, Number, Claim}
-use Rattle.meaning.proofs.Views.{same-type, value-small, value-pattern, by-test}
+use Rattle.meaning.proofs.Plans.{Covers, Number, Claim, bits-number}
+use Rattle.meaning.proofs.Views.{same-type, value-small, value-pattern}
 use Rattle.meaning.proofs.Modular.{refine-value}
-use Rattle.meaning.proofs.Field.{none-has, some-has, means-at, below-at, typed-at, literal-value, binary-is, linked}
+use Rattle.meaning.proofs.Field.{literal-value, linked, chain-here, chain-typed, chain-means}
 
 -- ---- the start of a chain of Refines
 
 module _ {ρ : Env} {g : List ℕ} (i : Inv ρ g) where
   down-value : (k n : ℕ) → n < countOf g → (down g k n < countOf g) × (value ρ g n ≡ value ρ g (down g k n))
   down-value zero n l = (l, refl)
-  down-value (suc k) n l = by (refinedAt g n) refl (λ p b. down-value k p b)
-    where
-      by : (r : Option ℕ) → refinedAt g n ≡ r → ((p : ℕ) → p < countOf g → (down g k p < countOf g) × (value ρ g p ≡ value ρ g (down g k p)))
-          → (given r (λ p. down g k p) n < countOf g) × (value ρ g n ≡ value ρ g (given r (λ p. down g k p) n))
-      by none e ih = (l, refl)
-      by (some p) e ih =
-          let d = refine-value i n l p e in
-          let q = ih p (let b = d .0 in omega arith) in
-          (q .0, d .1 ∙ q .1)
+  down-value (suc k) n l =
+      by-given (λ (m : ℕ). (m < countOf g) × (value ρ g n ≡ value ρ g m)) (refinedAt g n)
+      (λ p e.
+      let d = refine-value i n l p e in
+      let q = down-value k p (let b = d .0 in omega arith) in
+      (q .0, d .1 ∙ q .1))
+      (λ e. (l, refl))
 
   pub origin-value : (n : ℕ) → n < countOf g → (origin g n < countOf g) × (value ρ g n ≡ value ρ g (origin g n))
   unfolding origin
@@ -74,12 +72,9 @@ module _ (w : ℕ) where
   unfolding evaluateBinary
   right-value x c l = ap (λ (n : ℕ). some (n % 2 ^ w)) (shift-right x c l)
 
-  low-valued : (x : ℕ) → valued (ty.Bits w) x ≡ some (x % 2 ^ w)
-  low-valued x = typed-of (ty.Bits w) (x % 2 ^ w) (mod-lt x (pow-pos w))
-
   low-means : (o : Binary) (x c r : ℕ) → evaluateBinary o (ty.Bits w) x c ≡ some (r % 2 ^ w)
       → binaryMeans (ty.Bits w) o (some x) (some c) ≡ some (r % 2 ^ w)
-  low-means o x c r e = ap (λ (a : Option ℕ). andThen a (ofType (ty.Bits w))) e ∙ low-valued r
+  low-means o x c r e = ap (λ (a : Option ℕ). andThen a (ofType (ty.Bits w))) e ∙ low-valued w r
 
   pub left-means : w ≤ 128 → (x c : ℕ) → binaryMeans (ty.Bits w) bi.ShiftLeft (some x) (some c) ≡ some (x * 2 ^ c % 2 ^ w)
   left-means wide x c = low-means bi.ShiftLeft x c (x * 2 ^ c) (left-value wide x c)
@@ -121,14 +116,6 @@ out-wide : (o : Binary) (w c : ℕ) (b : Bool) → w ≤ 128 → isShiftedOut o 
 out-wide o w c b wide e =
     ⊎-elim (λ q. let p = leb-true 128 c q in omega arith) (λ q. leb-true w c (tests (leb w c) _ q .0)) (either (leb 128 c) _ e)
 
-provided-is : {A : Type 0} (b : Bool) (a : Option A) (p : A) → provided b a ≡ some p → (b ≡ true) × (a ≡ some p)
-provided-is true a p e = (refl, e)
-provided-is false a p e = absurd (none-has e)
-
-given-is : {A B : Type 0} (a : Option A) (f : A → Option B) (p : B) → given a f none ≡ some p → (x : A) × (a ≡ some x) × (f x ≡ some p)
-given-is none f p e = absurd (none-has e)
-given-is (some x) f p e = (x, refl, e)
-
 -- a node that is its base shifted left, in Bits(w)
 record Shifted (ρ : Env) (g : List ℕ) (w n : ℕ) (c : Chain) : Type 0 where
   here : c .base < countOf g
@@ -139,19 +126,14 @@ module _ {ρ : Env} {g : List ℕ} (i : Inv ρ g) (w : ℕ) (wide : w ≤ 128) w
   chain-shifted : (n : ℕ) → n < countOf g → typeAt g n ≡ ty.Bits w → (c : Chain) → chainAt g n ≡ some c → c .op ≡ bi.ShiftLeft → Shifted ρ g w n c
   chain-shifted n l t c e s =
       let f = linked g n c e in
-      let j : ℕ = f .constant in
-      let o : Op = node.binary bi.ShiftLeft (c .base) j in
-      let q : operationAt g n ≡ o = f .operation ∙ ap (λ (h : Binary). node.binary h (c .base) j) s in
-      let b : start o ≤ n = below-at ρ g i n l o q in
-      let k : storedTyped bi.ShiftLeft (typeAt g (c .base)) (typeAt g j) (ty.Bits w) ≡ true =
-      subst (λ (h : ScalarType). storedTyped bi.ShiftLeft (typeAt g (c .base)) (typeAt g j) h ≡ true) t (typed-at ρ g i n l o q) in
+      let k : storedTyped bi.ShiftLeft (typeAt g (c .base)) (typeAt g (f .constant)) (ty.Bits w) ≡ true =
+      (λ z. storedTyped (sym s z) (typeAt g (c .base)) (typeAt g (f .constant)) (sym t z)) ∙ chain-typed i n l c f in
       record {
-        here = omega arith;
-        typed = tests (shiftable (typeAt g (c .base)) (ty.Bits w)) (isNumber (typeAt g j)) k .0;
+        here = chain-here i n l c f .0;
+        typed = tests (shiftable (typeAt g (c .base)) (ty.Bits w)) (isNumber (typeAt g (f .constant))) k .0;
         means = λ v m.
-            by-count w bi.ShiftLeft (λ x. x * 2 ^ (c .value) % 2 ^ w) (value ρ g (c .base)) (value ρ g j) (c .value) v
-            (λ x d. left-means w wide x (c .value)) (literal-value ρ g i j (c .value) (omega arith) (f .has))
-            (subst (λ (h : ScalarType). binaryMeans h bi.ShiftLeft (value ρ g (c .base)) (value ρ g j) ≡ some v) t (means-at ρ g i n l v m o q));
+            let d = chain-means i n l c f v m in
+            (d .0, d .1, some-is (sym (d .2) ∙ (λ z. evaluateBinary (s z) (t z) (d .0) (c .value)) ∙ left-value w wide (d .0) (c .value)));
       }
 
   module _ (left right count : ℕ) (ll : left < countOf g) (known : value ρ g right ≡ some count) where
@@ -170,31 +152,28 @@ module _ {ρ : Env} {g : List ℕ} (i : Inv ρ g) (w : ℕ) (wide : w ≤ 128) w
       out-claim : ((x : ℕ) → value ρ g left ≡ some x → f x ≡ 0) → Asked o (plan.constant (ty.Bits w) 0)
       out-claim h = (
         refl,
-        record { width = wide; small = mod-lt 0 (pow-pos w) },
+        bits-number wide 0,
         covers (some (0 % 2 ^ w)) (λ x e. ap some (mod-eq-of-lt (pow-pos w) ∙ sym (h x e))),
       )
 
       by-claim : (w ≤ count → (x : ℕ) → value ρ g left ≡ some x → f x ≡ 0)
           → ((c : Chain) → c .value < w → count < w → Shifted ρ g w left c → Asked o (again o c)) → (p : Plan) → shiftBy g o w left count ≡ some p → Asked o p
-      by-claim out twice p e = go (isShiftedOut o w count (one (narrowType (typeAt g left) w) (fits w (rangeAt g left)))) refl e
-        where
-          go : (b : Bool) → isShiftedOut o w count (one (narrowType (typeAt g left) w) (fits w (rangeAt g left))) ≡ b
-              → cond b (some (plan.constant (ty.Bits w) 0))
-              (provided (sameType (typeAt g (origin g left)) (ty.Bits w)) (given (chainAt g (origin g left)) (shiftTwice o w count) none)) ≡ some p → Asked o p
-          go true q e = subst (Asked o) (some-has e) (out-claim (out (out-wide o w count _ wide q)))
-          go false q e =
-              let a = provided-is (sameType (typeAt g (origin g left)) (ty.Bits w)) _ p e in
-              let b = given-is (chainAt g (origin g left)) (shiftTwice o w count) p (a .1) in
-              let c : Chain = b .0 in
-              let d = provided-is (both (ltb (c .value) w) (both (ltb count w) (sameBinary (c .op) bi.ShiftLeft))) (some (again o c)) p (b .2) in
-              let x = tests (ltb (c .value) w) (both (ltb count w) (sameBinary (c .op) bi.ShiftLeft)) (d .0) in
-              let y = tests (ltb count w) (sameBinary (c .op) bi.ShiftLeft) (x .1) in
-              let v = origin-value i left ll in
-              let s =
-              chain-shifted (origin g left) (v .0) (same-type (typeAt g (origin g left)) (ty.Bits w) (a .0)) c (b .1) (binary-is (c .op) bi.ShiftLeft (y .1)) in
-              subst (Asked o) (some-has (d .1))
-              (twice c (ltb-true (c .value) w (x .0)) (ltb-true count w (y .0))
-              (record { here = s .here; typed = s .typed; means = λ z m. s .means z (sym (v .1) ∙ m) }))
+      by-claim out twice =
+          by-test (Each (Asked o)) (isShiftedOut o w count (one (narrowType (typeAt g left) w) (fits w (rangeAt g left))))
+          (λ q. each-some (Asked o) _ (out-claim (out (out-wide o w count _ wide q))))
+          (λ q p e.
+          let a = provided-is (sameType (typeAt g (origin g left)) (ty.Bits w)) _ e in
+          let b = given-is (chainAt g (origin g left)) (shiftTwice o w count) (a .1) in
+          let c : Chain = b .0 in
+          let d = provided-is (both (ltb (c .value) w) (both (ltb count w) (sameBinary (c .op) bi.ShiftLeft))) (some (again o c)) (b .2) in
+          let x = tests (ltb (c .value) w) (both (ltb count w) (sameBinary (c .op) bi.ShiftLeft)) (d .0) in
+          let y = tests (ltb count w) (sameBinary (c .op) bi.ShiftLeft) (x .1) in
+          let v = origin-value i left ll in
+          let s =
+          chain-shifted (origin g left) (v .0) (same-type (typeAt g (origin g left)) (ty.Bits w) (a .0)) c (b .1) (binary-is (c .op) bi.ShiftLeft (y .1)) in
+          subst (Asked o) (some-is (d .1))
+          (twice c (ltb-true (c .value) w (x .0)) (ltb-true count w (y .0))
+          (record { here = s .here; typed = s .typed; means = λ z m. s .means z (sym (v .1) ∙ m) })))
 
     -- ---- to the left
 
@@ -269,26 +248,24 @@ module _ {ρ : Env} {g : List ℕ} (i : Inv ρ g) (w : ℕ) (wide : w ≤ 128) w
         ap (λ (n : ℕ). n % 2 ^ w) (sym (right-all w count x (subst (λ (h : ScalarType). x < size h) t (value-small i left ll x e)) l)) ∙ mod-eq-of-lt (pow-pos w))
         right-again
 
--- one of the two shifts
-of-shift : (P : Binary → Type 0) → P bi.ShiftLeft → P bi.ShiftRight → (o : Binary) → isAny shifts o ≡ true → P o
-of-shift P a b o e =
-    ⊎-elim (λ q. subst P (sym (binary-is o bi.ShiftLeft q)) a)
-    (λ q. ⊎-elim (λ r. subst P (sym (binary-is o bi.ShiftRight r)) b) (λ r. absurd (false≢true r)) (either (sameBinary o bi.ShiftRight) false q))
-    (either (sameBinary o bi.ShiftLeft) _ e)
-
 module _ {ρ : Env} {g : List ℕ} (i : Inv ρ g) (left right : ℕ) (ll : left < countOf g) (lr : right < countOf g) where
   pub shift-claim : (t : ScalarType) → typeWidth t ≤ 128 → (o : Binary) → storedTyped o (typeAt g left) (typeAt g right) t ≡ true → (known : Option ℕ)
       → literal g right ≡ known → (p : Plan) → shiftPlan g t o left known ≡ some p → Claim ρ g t (binaryMeans t o (value ρ g left) (value ρ g right)) p
-  shift-claim ty.Bool wide o typed known e p q = absurd (none-has q)
-  shift-claim ty.Integer wide o typed known e p q = absurd (none-has q)
+  shift-claim ty.Bool wide o typed known e p q = absurd (none-some q)
+  shift-claim ty.Integer wide o typed known e p q = absurd (none-some q)
   shift-claim (ty.Bits w) wide o typed known e p q =
-      let a = provided-is (isAny shifts o) _ p q in
-      let b = given-is known (shiftBy g o w left) p (a .1) in
+      let a = provided-is (isAny shifts o) _ q in
+      let b = given-is known (shiftBy g o w left) (a .1) in
       let v : value ρ g right ≡ some (b .0) = literal-value ρ g i right (b .0) lr (e ∙ b .1) in
-      of-shift
+      of-any
       (λ (o : Binary).
       storedTyped o (typeAt g left) (typeAt g right) (ty.Bits w) ≡ true → shiftBy g o w left (b .0) ≡ some p
       → Claim ρ g (ty.Bits w) (binaryMeans (ty.Bits w) o (value ρ g left) (value ρ g right)) p)
-      (λ s r. left-claim i w wide left right (b .0) ll v p r)
-      (λ s r. right-claim i w wide left right (b .0) ll v (same-type (typeAt g left) (ty.Bits w) (tests (sameType (typeAt g left) (ty.Bits w)) _ s .0)) p r) o
-      (a .0) typed (b .2)
+      shifts (
+        λ s r. left-claim i w wide left right (b .0) ll v p r,
+        (
+          λ s r. right-claim i w wide left right (b .0) ll v (same-type (typeAt g left) (ty.Bits w) (tests (sameType (typeAt g left) (ty.Bits w)) _ s .0)) p r,
+          tt,
+        ),
+      )
+      o (a .0) typed (b .2)

@@ -13,7 +13,7 @@ use lib.Dec.{eqb, ltb, leb}
 use lib.IntN.{ℤ, pos, negsuc}
 use lib.Pow.{pow-add, pow-pos, pow-mono, shr-mono}
 use lib.Signed.{mag, _≤ℤ_}
-use Rattle.word.specs.Value.{residue, provided}
+use Rattle.word.specs.Value.{residue}
 use Rattle.word.proofs.Integer.{residue-pos}
 use Rattle.word.proofs.Shifts.{right-all}
 use Rattle.range.specs.Interval.{Interval, both, one, nonnegative, typeInterval, insideBits}
@@ -21,32 +21,31 @@ use Rattle.range.specs.declared.ScalarType.{ScalarType}
 use Rattle.range.specs.declared.ScalarType.the-variants as ty
 use Rattle.range.proofs.Order.{le-parts}
 use Rattle.range.proofs.Sound.{tests, either}
+use Rattle.range.proofs.Answers.{some-is}
+use Rattle.range.proofs.Valid.{type-valid}
 use Rattle.evaluate.specs.Operator.{typeWidth}
 use Rattle.graph.specs.Layout.{countOf}
 use Rattle.graph.specs.Node as node
 use Rattle.graph.specs.Node.{Op, typeAt, rangeAt, operationAt}
 use Rattle.graph.specs.Insert.{literal}
 use Rattle.fold.specs.Shape.{given, sameType}
-use Rattle.fold.specs.Bitfield.{above}
+use Rattle.bitfield.specs.Bitfield.{above}
 use Rattle.plan.specs.Plan as plan
 use Rattle.plan.specs.Plan.{Plan}
-use Rattle.plan.specs.Slice.{lowered, boundedPlan, newSlice, sliceConcat, sliceOperation, slicePart, slicePlan, sliceOpen, sliceFirst}
+use Rattle.plan_slice.specs.Slice.{lowered, boundedPlan, newSlice, sliceConcat, sliceOperation, slicePart, slicePlan, sliceFirst}
 use Rattle.build.specs.Rest.{restPlan}
 use Rattle.bits.proofs.Slices.{slice-slice, slice-high, slice-low, slice-split}
 use Rattle.meaning.specs.Value.{Env, size, valued, andThen, sliceMeans, concatMeans, value}
-use Rattle.meaning.proofs.Values.{some-is, typed-is, typed-of, then-is, means-small}
+use Rattle.meaning.proofs.Values.{typed-is, then-is, means-small}
+use Rattle.meaning.proofs.Answers.{by-test, by-provided, by-given}
 use Rattle.meaning.proofs.Invariant.{Inv, ext-here, ext-value, Kept}
-use Rattle.meaning.proofs.Constants.{valued-same, stored-low, stored-high}
-use Rattle.meaning.proofs.Plans.{Covers, Number, Claim, FirstClaim}
-use Rattle.meaning.proofs.Views.{same-type, value-small, value-pattern, by-test, any-within}
+use Rattle.meaning.proofs.Constants.{valued-same, stored-low, stored-high, low-valued}
+use Rattle.meaning.proofs.Plans.{Covers, Claim, FirstClaim, bits-number}
+use Rattle.meaning.proofs.Views.{same-type, value-small, value-pattern, any-within}
 use Rattle.meaning.proofs.Ranges.{type-within, type-ends}
 use Rattle.meaning.proofs.Field.{means-at, below-at, typed-at, literal-value, sides}
 
 -- ---- bits of numbers
-
--- a value of Bits(w) by its low bits
-low-valued : (w x : ℕ) → valued (ty.Bits w) x ≡ some (x % 2 ^ w)
-low-valued w x = typed-of (ty.Bits w) (x % 2 ^ w) (mod-lt x (pow-pos w))
 
 low-is : (w x v : ℕ) → valued (ty.Bits w) x ≡ some v → v ≡ x % 2 ^ w
 low-is w x v e = typed-is (ty.Bits w) (x % 2 ^ w) v e .0
@@ -76,18 +75,11 @@ neither : (s t : Bool) → one s t ≡ false → s ≡ false
 neither true t e = e
 neither false t e = refl
 
-by-provided : {A : Type 0} (P : Option A → Type 0) (b : Bool) {o : Option A} → (b ≡ true → P o) → P none → P (provided b o)
-by-provided P true f h = f refl
-by-provided P false f h = h
-
 -- ---- what a slice asks for
 
 slice-covers : (w o : ℕ) (a b : Option ℕ) → ((x : ℕ) → a ≡ some x → b ≡ some (x / 2 ^ o % 2 ^ w)) → Covers (sliceMeans (ty.Bits w) o a) b
 slice-covers w o a b f v e =
     let p = then-is a (λ x. valued (ty.Bits w) (x / 2 ^ o)) v e in f (p .0) (p .1) ∙ ap some (sym (low-is w (p .0 / 2 ^ o) v (p .2)))
-
-low-number : (w c : ℕ) → w ≤ 128 → Number (ty.Bits w) c
-low-number w c h = record { width = h; small = mod-lt c (pow-pos w) }
 
 module _ {ρ : Env} {g : List ℕ} (i : Inv ρ g) (n o w : ℕ) (l : n < countOf g) (wide : w ≤ 128) where
   abbrev Asked : Plan → Type 0
@@ -100,7 +92,7 @@ module _ {ρ : Env} {g : List ℕ} (i : Inv ρ g) (n o w : ℕ) (l : n < countOf
   number-claim : (c : ℕ) → ((x : ℕ) → value ρ g n ≡ some x → x / 2 ^ o ≡ c) → Asked (plan.constant (ty.Bits w) c)
   number-claim c f = (
     refl,
-    low-number w c wide,
+    bits-number wide c,
     slice-covers w o (value ρ g n) (some (c % 2 ^ w)) (λ x m. ap (λ (k : ℕ). some (k % 2 ^ w)) (sym (f x m))),
   )
 
@@ -158,6 +150,9 @@ module _ {ρ : Env} {g : List ℕ} (i : Inv ρ g) (n o w : ℕ) (l : n < countOf
       };
       width = wide;
       below = omega arith;
+      offset = small;
+      parameter = wide;
+      valid = type-valid (ty.Bits w);
       typed = refl;
       refined = tt;
       ends = type-ends (ty.Bits w);
@@ -292,12 +287,8 @@ module _ {ρ : Env} {g : List ℕ} (i : Inv ρ g) (n o w : ℕ) (l : n < countOf
 
   pub slice-first-claim : FirstClaim ρ g (ty.Bits w) (sliceMeans (ty.Bits w) o (value ρ g n)) (sliceFirst g n o w)
   unfolding sliceFirst restPlan
-  slice-first-claim = go (literal g n) refl
-    where
-      go : (m : Option ℕ) → literal g n ≡ m
-          → FirstClaim ρ g (ty.Bits w) (sliceMeans (ty.Bits w) o (value ρ g n))
-          (given m (λ c. plan.does (plan.constant (ty.Bits w) (lowered c o))) (sliceOpen g n o w))
-      go none e =
-          by-test (FirstClaim ρ g (ty.Bits w) (sliceMeans (ty.Bits w) o (value ρ g n))) (eqb o 0)
-          (λ z. (((wide, l), refl, start-covers i n o w l wide (eqb-true o 0 z)), rest-claim)) (λ z. slice-plan-claim i n o w l wide)
-      go (some c) e = slice-constant-claim i n o w l wide c e
+  slice-first-claim =
+      by-given (FirstClaim ρ g (ty.Bits w) (sliceMeans (ty.Bits w) o (value ρ g n))) (literal g n) (slice-constant-claim i n o w l wide)
+      (λ e.
+      by-test (FirstClaim ρ g (ty.Bits w) (sliceMeans (ty.Bits w) o (value ρ g n))) (eqb o 0)
+      (λ z. (((wide, l), refl, start-covers i n o w l wide (eqb-true o 0 z)), rest-claim)) (λ z. slice-plan-claim i n o w l wide))

@@ -1,16 +1,15 @@
 -- unsigned_range is sound: value - low is at most high - low, modulo 2 ^ w, just if the value lies between both. Assumes nothing.
 use mathlib.Core.Path.{_≡_, refl, sym, ap, _∙_, subst}
-use mathlib.Core.Bool.{Bool, true, false, cond}
+use mathlib.Core.Bool.{Bool, true}
 use mathlib.Core.List.{List}
 use mathlib.Core.Logic.{⊎-elim}
 use mathlib.Core.Option.{some}
 use Prim.Native.Nat.{ℕ, _+_, _-_, _%_, _^_, _≤_, _<_, min}
-use native.Mathlib.Nat.{mod-lt, mod-eq-of-lt, lt-of-lt-of-le, min-eq-left}
+use native.Mathlib.Nat.{mod-eq-of-lt, min-eq-left}
 use native.Mathlib.Omega.{arith}
 use borrow.Author.Tests.{leb-true, le-leb, lt-leb, eq-eqb}
 use lib.Dec.{leb}
-use lib.IntN.{pos, _-ℤ_}
-use lib.Pow.{pow-pos, pow-mono, lt-of-le-ones}
+use lib.Pow.{lt-of-le-ones}
 use Rattle.word.proofs.Integer.{lt-or-ge}
 use Rattle.range.specs.Interval.{both}
 use Rattle.range.specs.declared.ScalarType.{ScalarType}
@@ -19,32 +18,25 @@ use Rattle.range.proofs.Sound.{tests}
 use Rattle.evaluate.specs.Evaluate.{fromBool, reduced, evaluateBinary}
 use Rattle.evaluate.specs.U128 as u128
 use Rattle.evaluate.specs.declared.Binary.the-variants as bi
-use Rattle.evaluate.proofs.Fields.{residue-narrow}
 use Rattle.graph.specs.Layout.{countOf}
 use Rattle.graph.specs.Node.{typeAt}
 use Rattle.fold.specs.Shape.{mask}
-use Rattle.graph.specs.Insert.{nothing}
-use Rattle.build.specs.Build.{give, call, binary, byConstant, rangeProg, isTestable, rangeStep, unsignedRange, build}
+use Rattle.build.specs.Build.{call, binary, byConstant, rangeProg, isTestable, rangeStep, unsignedRange, build}
 use Rattle.native.specs.Request as request
 use Rattle.native.specs.Request.{UNITS}
 use Rattle.bits.proofs.Sums.{Wrap, under, over, wrap, sub-exact}
 use Rattle.meaning.specs.Value.{Env, size, ofType, binaryMeans, value}
 use Rattle.meaning.specs.Book.{requestMeans}
-use Rattle.meaning.proofs.Values.{typed-of, then-is}
+use Rattle.meaning.proofs.Answers.{by-test}
+use Rattle.meaning.proofs.Modular.{sub-low}
+use Rattle.meaning.proofs.Constants.{low-valued}
+use Rattle.meaning.proofs.Values.{typed-of, then-is, truth-small}
 use Rattle.meaning.proofs.Invariant.{storedTyped, Inv, ext-here, ext-type, ext-value}
-use Rattle.meaning.proofs.Modular.{wraps-sub}
-use Rattle.meaning.proofs.Plans.{Number, constant-good, by-constant-good}
-use Rattle.meaning.proofs.Ranges.{wrapped-sub}
+use Rattle.meaning.proofs.Plans.{Number, constant-good, by-constant-good, bits-number}
 use Rattle.meaning.proofs.Tree.{Ends, Sound, Good, exec-ends}
 use Rattle.meaning.proofs.Views.{value-small}
 
 -- ---- numbers
-
--- a wrapped difference within w bits
-sub-low : (w a b : ℕ) → w ≤ 128 → a < 2 ^ w → b < 2 ^ w → u128.wrapping-sub a b % 2 ^ w ≡ (a + (2 ^ w - b)) % 2 ^ w
-sub-low w a b l la lb =
-    ap (λ (n : ℕ). n % 2 ^ w) (wraps-sub a b (lt-of-lt-of-le la (pow-mono l)) (lt-of-lt-of-le lb (pow-mono l))) ∙ residue-narrow (pos a -ℤ pos b) 128 w l
-    ∙ wrapped-sub w a b la lb
 
 module _ (S a low high : ℕ) (la : a < S) (ordered : low ≤ high) (lh : high < S) where
   -- the difference is at most the extent just if a lies between both
@@ -87,7 +79,7 @@ module _ (ρ : Env) (g : List ℕ) (i : Inv ρ g) (v low high w : ℕ) (l : v < 
   low-small = let a = ordered in let b = high-small in omega arith
 
   number : (n : ℕ) → Number (ty.Bits w) n
-  number n = record { width = (let k = narrow in omega arith); small = mod-lt n (pow-pos w) }
+  number n = let k = narrow in bits-number (omega arith) n
 
   -- the difference with low, as the node of it has it
   difference : (a : ℕ) → a < 2 ^ w → binaryMeans (ty.Bits w) bi.Sub (some a) (some (reduced (ty.Bits w) low)) ≡ some ((a + (2 ^ w - low)) % 2 ^ w)
@@ -95,7 +87,7 @@ module _ (ρ : Env) (g : List ℕ) (i : Inv ρ g) (v low high w : ℕ) (l : v < 
   difference a la =
       let n = narrow in
       ap (λ (k : ℕ). ofType (ty.Bits w) (u128.wrapping-sub a k % 2 ^ w)) (mod-eq-of-lt low-small)
-      ∙ ap (ofType (ty.Bits w)) (sub-low w a low (omega arith) la low-small) ∙ typed-of (ty.Bits w) ((a + (2 ^ w - low)) % 2 ^ w) (mod-lt (a + (2 ^ w - low)) (pow-pos w))
+      ∙ ap (ofType (ty.Bits w)) (sub-low w a low (omega arith) la low-small) ∙ low-valued w (a + (2 ^ w - low))
 
   extent : reduced (ty.Bits w) (u128.wrapping-sub high low) ≡ high - low
   extent = let n = narrow in sub-low w high low (omega arith) high-small low-small ∙ sub-exact high low (2 ^ w) high-small ordered
@@ -106,11 +98,8 @@ module _ (ρ : Env) (g : List ℕ) (i : Inv ρ g) (v low high w : ℕ) (l : v < 
   unfolding evaluateBinary
   compared a la =
       ap (λ (k : ℕ). ofType ty.Bool (fromBool (leb ((a + (2 ^ w - low)) % 2 ^ w) k))) extent
-      ∙ ap (λ (b : Bool). ofType ty.Bool (fromBool b)) (between (2 ^ w) a low high la ordered high-small) ∙ bit (both (leb low a) (leb a high))
-    where
-      bit : (b : Bool) → ofType ty.Bool (fromBool b) ≡ some (fromBool b)
-      bit true = typed-of ty.Bool 1 (omega arith)
-      bit false = typed-of ty.Bool 0 (omega arith)
+      ∙ ap (λ (b : Bool). ofType ty.Bool (fromBool b)) (between (2 ^ w) a low high la ordered high-small)
+      ∙ typed-of ty.Bool (fromBool (both (leb low a) (leb a high))) (truth-small (both (leb low a) (leb a high)))
 
   range-good : Good ρ ty.Bool (requestMeans (value ρ g) (request.unsignedRange v low high)) (rangeProg (ty.Bits w) v low high) g
   range-good =
@@ -146,12 +135,9 @@ module _ (ρ : Env) (g : List ℕ) (i : Inv ρ g) (v low high w : ℕ) (l : v < 
 module _ (ρ : Env) (builds : Sound ρ build) (g : List ℕ) (i : Inv ρ g) (v low high : ℕ) (l : v < countOf g) where
   step-good : (t : ScalarType) → typeAt g v ≡ t → Good ρ ty.Bool (requestMeans (value ρ g) (request.unsignedRange v low high)) (rangeStep t v low high) g
   step-good ty.Bool e = tt
-  step-good (ty.Bits w) e = by (isTestable w low high) refl
-    where
-      by : (b : Bool) → isTestable w low high ≡ b
-          → Good ρ ty.Bool (requestMeans (value ρ g) (request.unsignedRange v low high)) (cond b (rangeProg (ty.Bits w) v low high) (give nothing)) g
-      by true q = range-good ρ g i v low high w l e q
-      by false q = tt
+  step-good (ty.Bits w) e =
+      by-test (λ p. Good ρ ty.Bool (requestMeans (value ρ g) (request.unsignedRange v low high)) p g) (isTestable w low high)
+      (λ q. range-good ρ g i v low high w l e q) (λ q. tt)
   step-good ty.Integer e = tt
 
   pub range-sound : Ends ρ g ty.Bool (requestMeans (value ρ g) (request.unsignedRange v low high)) (unsignedRange v low high UNITS g)

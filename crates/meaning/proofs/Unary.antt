@@ -1,4 +1,4 @@
--- Ends of derived ranges, results of their types, and that unary's plans claim what is asked of them. Assumes nothing.
+-- Derived ranges have ends of 128 bits and pass question 1; results are of their types; unary's plans claim what is asked of them. Assumes nothing.
 use mathlib.Core.Path.{_≡_, refl, sym, ap, _∙_, subst}
 use mathlib.Core.Bool.{Bool, true, false, not, false≢true}
 use mathlib.Core.List.{List}
@@ -13,14 +13,16 @@ use lib.Dec.{ltb, leb, eqb, lit<}
 use lib.IntN.{ℤ, pos, negsuc, natAbs, negℤ, _-ℤ_}
 use lib.Pow.{pow-pos, pow-mono}
 use lib.Signed.{mag, leZ, ltZ, _≤ℤ_, mag-shr}
-use Rattle.word.specs.Value.{residue, signed, fitted, only, provided, quotient, minZ, maxZ}
+use Rattle.word.specs.Value.{residue, signed, fitted, only, quotient, minZ, maxZ}
 use Rattle.word.proofs.Integer.{residue-lt, residue-pos, signed-low, half-twice}
 use Rattle.range.specs.Interval.{Interval, both, nonnegative, typeInterval, filtered, signExtended, between, addInterval, subInterval, negInterval, cornersOf, mulInterval, divisible, quotInterval, cut, cutTo, remInterval, andInterval, udivInterval, atMost, uremInterval, clamped, shifted, shlInterval, shrInterval}
 use Rattle.range.specs.declared.ScalarType.{ScalarType}
 use Rattle.range.specs.declared.ScalarType.the-variants as ty
 use Rattle.range.proofs.Order.{orders, extremes, le-min, max-le}
 use Rattle.range.proofs.Sound.{tests}
-use Rattle.evaluate.specs.Evaluate.{fromBool, mapped, reduced, orZero, toU32, extended, signExtended as extend, leadingIn, trailingIn, signedly, shiftedLeft, shiftedRight, arithmeticShift, binaryValue, evaluateUnary, evaluateBinary}
+use Rattle.range.proofs.Answers.{none-some, some-is, provided-is}
+use Rattle.range.proofs.Valid.{Valid, neg-full, add-full, sub-full, mul-full, quot-full, rem-full, and-full, udiv-full, urem-full, shl-full, shr-full, extended-full, integer-valid, filtered-valid, type-valid}
+use Rattle.evaluate.specs.Evaluate.{mapped, reduced, orZero, toU32, extended, signExtended as extend, leadingIn, trailingIn, signedly, shiftedLeft, shiftedRight, arithmeticShift, binaryValue, evaluateUnary, evaluateBinary}
 use Rattle.evaluate.specs.I128 as i128
 use Rattle.evaluate.specs.Operator.{typeWidth, unaryWidth}
 use Rattle.evaluate.specs.declared.Unary.{Unary}
@@ -38,31 +40,63 @@ use Rattle.native.specs.Typing.{isBits, isNumber, unaryTyped}
 use Rattle.plan.specs.Plan.{constantOr}
 use Rattle.plan.specs.Single.{isView, addOr, unaryPlan}
 use Rattle.meaning.specs.Value.{Env, size, valued, andThen, unaryMeans, value}
-use Rattle.meaning.proofs.Values.{typed-is, then-is}
-use Rattle.meaning.proofs.Invariant.{storedTyped, Ends, Inv, Storable}
+use Rattle.meaning.proofs.Values.{typed-is, then-is, truth-small}
+use Rattle.meaning.proofs.Invariant.{storedTyped, Ends, Inv, inv-valid, Storable}
+use Rattle.meaning.proofs.Answers.{both-given, by-test, Each, each-none, each-some, each-provided, each-mapped, each-else}
 use Rattle.meaning.proofs.Constants.{stored-low, stored-high}
 use Rattle.meaning.proofs.Plans.{Covers, Claim}
-use Rattle.meaning.proofs.Views.{same-type, value-small, value-pattern, by-test, covers-truncate, fits-facts, fits-small}
-use Rattle.meaning.proofs.Ranges.{not-there, there, provided-is, mapped-is, both-given, fitted-is, quotient-is, type-ends, unary-within}
+use Rattle.meaning.proofs.Views.{same-type, value-small, value-pattern, covers-truncate, fits-facts, fits-small}
+use Rattle.meaning.proofs.Ranges.{fitted-is, quotient-is, type-ends, unary-within}
 use Rattle.meaning.proofs.Field.{literal-value}
 
--- ---- what holds of an answer, if there is one
+-- ---- what holds of the range of each rule holds of what a node's rule gives
 
-abbrev Each : {A : Type 0} → (A → Type 0) → Option A → Type 0
-Each {A} P o = (a : A) → o ≡ some a → P a
+module _ (P : Interval → Type 0) (a b : Interval) (add : Each P (addInterval a b)) (sub : Each P (subInterval a b)) (mul : Each P (mulInterval a b))
+    (conj : Each P (andInterval a b)) where
+  each-integer : Each P (quotInterval a b) → Each P (remInterval a b) → Each P (udivInterval a b) → Each P (uremInterval a b) → (o : Binary)
+      → Each P (integerRule o a b)
+  unfolding integerRule
+  each-integer quot rem udiv urem bi.Add = add
+  each-integer quot rem udiv urem bi.Sub = sub
+  each-integer quot rem udiv urem bi.Mul = mul
+  each-integer quot rem udiv urem bi.And = conj
+  each-integer quot rem udiv urem bi.Or = each-none P
+  each-integer quot rem udiv urem bi.Xor = each-none P
+  each-integer quot rem udiv urem bi.ShiftLeft = each-none P
+  each-integer quot rem udiv urem bi.ShiftRight = each-none P
+  each-integer quot rem udiv urem bi.ArithmeticShiftRight = each-none P
+  each-integer quot rem udiv urem bi.Equal = each-none P
+  each-integer quot rem udiv urem bi.NotEqual = each-none P
+  each-integer quot rem udiv urem bi.LessSigned = each-none P
+  each-integer quot rem udiv urem bi.LessUnsigned = each-none P
+  each-integer quot rem udiv urem bi.LessEqualSigned = each-none P
+  each-integer quot rem udiv urem bi.LessEqualUnsigned = each-none P
+  each-integer quot rem udiv urem bi.DivideSigned = quot
+  each-integer quot rem udiv urem bi.RemainderSigned = rem
+  each-integer quot rem udiv urem bi.DivideUnsigned = udiv
+  each-integer quot rem udiv urem bi.RemainderUnsigned = urem
 
-module _ {A : Type 0} (P : A → Type 0) where
-  each-none : Each P none
-  each-none a e = absurd (not-there e)
-
-  each-some : (b : A) → P b → Each P (some b)
-  each-some b h a e = subst P (there e) h
-
-  each-if : (t : Bool) (o : Option A) → Each P o → Each P (provided t o)
-  each-if t o h a e = h a (provided-is t o e .1)
-
-each-mapped : {A B : Type 0} (P : B → Type 0) (f : A → B) (o : Option A) → Each (λ a. P (f a)) o → Each P (mapped f o)
-each-mapped P f o h b e = let (a, p, q) = mapped-is f o b e in subst P q (h a p)
+  each-bits : Each P (shlInterval a b) → Each P (shrInterval a b) → (o : Binary) → Each P (bitsRule o a b)
+  unfolding bitsRule
+  each-bits shl shr bi.Add = add
+  each-bits shl shr bi.Sub = sub
+  each-bits shl shr bi.Mul = mul
+  each-bits shl shr bi.And = conj
+  each-bits shl shr bi.Or = each-none P
+  each-bits shl shr bi.Xor = each-none P
+  each-bits shl shr bi.ShiftLeft = shl
+  each-bits shl shr bi.ShiftRight = shr
+  each-bits shl shr bi.ArithmeticShiftRight = each-none P
+  each-bits shl shr bi.Equal = each-none P
+  each-bits shl shr bi.NotEqual = each-none P
+  each-bits shl shr bi.LessSigned = each-none P
+  each-bits shl shr bi.LessUnsigned = each-none P
+  each-bits shl shr bi.LessEqualSigned = each-none P
+  each-bits shl shr bi.LessEqualUnsigned = each-none P
+  each-bits shl shr bi.DivideSigned = each-none P
+  each-bits shl shr bi.RemainderSigned = each-none P
+  each-bits shl shr bi.DivideUnsigned = each-none P
+  each-bits shl shr bi.RemainderUnsigned = each-none P
 
 -- ---- ends of 128 bits
 
@@ -90,7 +124,7 @@ quotient-small x y u e = quotient-is x y u e .1
 
 shifted-small : (z n : ℤ) → Each Small (shifted z n)
 unfolding shifted
-shifted-small z n = each-if Small (ltb (clamped n) 127) _ (fitted-small _)
+shifted-small z n = each-provided Small (ltb (clamped n) 127) (λ q. fitted-small _)
 
 between-ends : (o p : Option ℤ) → Each Small o → Each Small p → Each Ends (between o p)
 between-ends none p f g = each-none Ends
@@ -150,104 +184,62 @@ module _ (a b : Interval) (f : Ends a) (g : Ends b) where
   and-ends : Each Ends (andInterval a b)
   unfolding andInterval
   and-ends =
-      each-if Ends (both (nonnegative a) (nonnegative b)) _ (between-ends _ _ (each-some Small _ (pow-pos 127)) (each-some Small _ (min-small (a .high) (b .high) (f .high) (g .high))))
+      each-provided Ends (both (nonnegative a) (nonnegative b)) (λ q. between-ends _ _ (each-some Small _ (pow-pos 127)) (each-some Small _ (min-small (a .high) (b .high) (f .high) (g .high))))
 
   quot-ends : Each Ends (quotInterval a b)
   unfolding quotInterval
-  quot-ends = each-if Ends (divisible a b) _ (corners-ends _ _ _ _ (quotient-small _ _) (quotient-small _ _) (quotient-small _ _) (quotient-small _ _))
+  quot-ends = each-provided Ends (divisible a b) (λ q. corners-ends _ _ _ _ (quotient-small _ _) (quotient-small _ _) (quotient-small _ _) (quotient-small _ _))
 
   rem-ends : Each Ends (remInterval a b)
   unfolding remInterval
-  rem-ends = each-if Ends (divisible a b) _ (cut-to-ends a (fitted (pos (natAbs (b .low)))) (fitted (pos (natAbs (b .high)))) f)
+  rem-ends = each-provided Ends (divisible a b) (λ q. cut-to-ends a (fitted (pos (natAbs (b .low)))) (fitted (pos (natAbs (b .high)))) f)
 
   udiv-ends : Each Ends (udivInterval a b)
   unfolding udivInterval
-  udiv-ends = each-if Ends (both (nonnegative a) (ltZ (pos 0) (b .low))) _ (between-ends _ _ (each-some Small _ (pow-pos 127)) (quotient-small _ _))
+  udiv-ends = each-provided Ends (both (nonnegative a) (ltZ (pos 0) (b .low))) (λ q. between-ends _ _ (each-some Small _ (pow-pos 127)) (quotient-small _ _))
 
   urem-ends : Each Ends (uremInterval a b)
   unfolding uremInterval
-  urem-ends = each-if Ends (both (nonnegative a) (ltZ (pos 0) (b .low))) _ (between-ends _ _ (each-some Small _ (pow-pos 127)) (at-most-small (a .high) _ (f .high) (fitted-small _)))
+  urem-ends = each-provided Ends (both (nonnegative a) (ltZ (pos 0) (b .low))) (λ q. between-ends _ _ (each-some Small _ (pow-pos 127)) (at-most-small (a .high) _ (f .high) (fitted-small _)))
 
   shl-ends : Each Ends (shlInterval a b)
   unfolding shlInterval
-  shl-ends = each-if Ends (both (nonnegative a) (nonnegative b)) _ (between-ends _ _ (shifted-small _ _) (shifted-small _ _))
+  shl-ends = each-provided Ends (both (nonnegative a) (nonnegative b)) (λ q. between-ends _ _ (shifted-small _ _) (shifted-small _ _))
 
   shr-ends : Each Ends (shrInterval a b)
   unfolding shrInterval
   shr-ends =
-      each-if Ends (both (nonnegative a) (nonnegative b)) _ (each-some Ends _ (record {
+      each-provided Ends (both (nonnegative a) (nonnegative b)) (λ q. each-some Ends _ (record {
         low = lt-of-le-of-lt (mag-shr (a .low) _) (f .low);
         high = lt-of-le-of-lt (mag-shr (a .high) _) (f .high);
       }))
 
   integer-ends : (o : Binary) → Each Ends (integerRule o a b)
-  unfolding integerRule
-  integer-ends bi.Add = add-ends
-  integer-ends bi.Sub = sub-ends
-  integer-ends bi.Mul = mul-ends
-  integer-ends bi.And = and-ends
-  integer-ends bi.Or = each-none Ends
-  integer-ends bi.Xor = each-none Ends
-  integer-ends bi.ShiftLeft = each-none Ends
-  integer-ends bi.ShiftRight = each-none Ends
-  integer-ends bi.ArithmeticShiftRight = each-none Ends
-  integer-ends bi.Equal = each-none Ends
-  integer-ends bi.NotEqual = each-none Ends
-  integer-ends bi.LessSigned = each-none Ends
-  integer-ends bi.LessUnsigned = each-none Ends
-  integer-ends bi.LessEqualSigned = each-none Ends
-  integer-ends bi.LessEqualUnsigned = each-none Ends
-  integer-ends bi.DivideSigned = quot-ends
-  integer-ends bi.RemainderSigned = rem-ends
-  integer-ends bi.DivideUnsigned = udiv-ends
-  integer-ends bi.RemainderUnsigned = urem-ends
+  integer-ends = each-integer Ends a b add-ends sub-ends mul-ends and-ends quot-ends rem-ends udiv-ends urem-ends
 
   bits-ends : (o : Binary) → Each Ends (bitsRule o a b)
-  unfolding bitsRule
-  bits-ends bi.Add = add-ends
-  bits-ends bi.Sub = sub-ends
-  bits-ends bi.Mul = mul-ends
-  bits-ends bi.And = and-ends
-  bits-ends bi.Or = each-none Ends
-  bits-ends bi.Xor = each-none Ends
-  bits-ends bi.ShiftLeft = shl-ends
-  bits-ends bi.ShiftRight = shr-ends
-  bits-ends bi.ArithmeticShiftRight = each-none Ends
-  bits-ends bi.Equal = each-none Ends
-  bits-ends bi.NotEqual = each-none Ends
-  bits-ends bi.LessSigned = each-none Ends
-  bits-ends bi.LessUnsigned = each-none Ends
-  bits-ends bi.LessEqualSigned = each-none Ends
-  bits-ends bi.LessEqualUnsigned = each-none Ends
-  bits-ends bi.DivideSigned = each-none Ends
-  bits-ends bi.RemainderSigned = each-none Ends
-  bits-ends bi.DivideUnsigned = each-none Ends
-  bits-ends bi.RemainderUnsigned = each-none Ends
+  bits-ends = each-bits Ends a b add-ends sub-ends mul-ends and-ends shl-ends shr-ends
 
 given-ends : (rule : Interval → Interval → Option Interval) → ((a b : Interval) → Ends a → Ends b → Each Ends (rule a b)) → (ra rb : Option Interval)
     → Each Ends ra → Each Ends rb → Each Ends (bothGiven ra rb rule)
 given-ends rule k ra rb f g c e =
-    let (a, b, i, j, r) = both-given rule ra rb c e in
+    let (a, b, i, j, r) = both-given rule ra rb e in
     k a b (f a i) (g b j) c r
 
 filtered-ends : (w : ℕ) (a : Interval) → Ends a → Each Ends (filtered w a)
 unfolding filtered
-filtered-ends w a f = each-if Ends (both (ltb w 128) (both (nonnegative a) (leZ (a .high) (pos (2 ^ w - 1))))) _ (each-some Ends a f)
+filtered-ends w a f = each-provided Ends (both (ltb w 128) (both (nonnegative a) (leZ (a .high) (pos (2 ^ w - 1))))) (λ q. each-some Ends a f)
 
 held-ends : (w : ℕ) (m : Option Interval) → Each Ends m → Each Ends (orElse (heldTo w m) (typeInterval (ty.Bits w)))
 held-ends w none f = type-ends (ty.Bits w)
-held-ends w (some a) f = go (filtered w a) (filtered-ends w a (f a refl))
-  where
-    go : (o : Option Interval) → Each Ends o → Each Ends (orElse o (typeInterval (ty.Bits w)))
-    go none h = type-ends (ty.Bits w)
-    go (some b) h = h
+held-ends w (some a) f = each-else Ends (filtered w a) (filtered-ends w a (f a refl)) (type-ends (ty.Bits w))
 
 pub binary-ends : (o : Binary) (t : ScalarType) (ra rb r : Option Interval) → ((a : Interval) → ra ≡ some a → Ends a)
     → ((a : Interval) → rb ≡ some a → Ends a) → binaryRange t o ra rb ≡ some r → (a : Interval) → r ≡ some a → Ends a
 unfolding binaryRange
-binary-ends o ty.Bool ra rb r f g e = subst (Each Ends) (there e) (type-ends ty.Bool)
+binary-ends o ty.Bool ra rb r f g e = subst (Each Ends) (some-is e) (type-ends ty.Bool)
 binary-ends o (ty.Bits w) ra rb r f g e =
-    subst (Each Ends) (there e) (held-ends w _ (given-ends (bitsRule o) (λ b c h k. bits-ends b c h k o) ra rb f g))
+    subst (Each Ends) (some-is e) (held-ends w _ (given-ends (bitsRule o) (λ b c h k. bits-ends b c h k o) ra rb f g))
 binary-ends o ty.Integer ra rb r f g e =
     each-mapped (Each Ends) some (bothGiven ra rb (integerRule o))
     (λ a q. each-some Ends a (given-ends (integerRule o) (λ b c h k. integer-ends b c h k o) ra rb f g a q)) r e
@@ -270,25 +262,73 @@ negated-ends a = between-ends _ _ (fitted-small _) (fitted-small _)
 pub unary-ends : (o : Unary) (t : ScalarType) (ra r : Option Interval) → ((a : Interval) → ra ≡ some a → Ends a) → unaryRange t o ra ≡ some r
     → (a : Interval) → r ≡ some a → Ends a
 unfolding unaryRange
-unary-ends un.BoolNot t ra r f e = subst (Each Ends) (there e) (type-ends t)
-unary-ends un.BitNot t ra r f e = subst (Each Ends) (there e) (type-ends t)
-unary-ends un.Negate t none r f e = absurd (not-there e)
+unary-ends un.BoolNot t ra r f e = subst (Each Ends) (some-is e) (type-ends t)
+unary-ends un.BitNot t ra r f e = subst (Each Ends) (some-is e) (type-ends t)
+unary-ends un.Negate t none r f e = absurd (none-some e)
 unary-ends un.Negate t (some p) r f e = each-mapped (Each Ends) some (negInterval p) (λ a q. each-some Ends a (negated-ends p a q)) r e
-unary-ends (un.Truncate w) t ra r f e = subst (Each Ends) (there e) (type-ends t)
-unary-ends (un.SignExtend w) ty.Bool ra r f e = subst (Each Ends) (there e) (type-ends ty.Bool)
-unary-ends (un.SignExtend w) (ty.Bits n) ra r f e = subst (Each Ends) (there e) (type-ends (ty.Bits n))
-unary-ends (un.SignExtend w) ty.Integer ra r f e = subst (Each Ends) (there e) (extended-ends w)
-unary-ends (un.LeadingZeros w) t ra r f e = subst (Each Ends) (there e) (type-ends t)
-unary-ends (un.TrailingZeros w) t ra r f e = subst (Each Ends) (there e) (type-ends t)
+unary-ends (un.Truncate w) t ra r f e = subst (Each Ends) (some-is e) (type-ends t)
+unary-ends (un.SignExtend w) ty.Bool ra r f e = subst (Each Ends) (some-is e) (type-ends ty.Bool)
+unary-ends (un.SignExtend w) (ty.Bits n) ra r f e = subst (Each Ends) (some-is e) (type-ends (ty.Bits n))
+unary-ends (un.SignExtend w) ty.Integer ra r f e = subst (Each Ends) (some-is e) (extended-ends w)
+unary-ends (un.LeadingZeros w) t ra r f e = subst (Each Ends) (some-is e) (type-ends t)
+unary-ends (un.TrailingZeros w) t ra r f e = subst (Each Ends) (some-is e) (type-ends t)
+
+-- ---- ranges that are not empty and lie inside their types
+
+abbrev Full : Interval → Type 0
+Full a = a .low ≤ℤ a .high
+
+module _ (a b : Interval) (f : Full a) (g : Full b) where
+  integer-full : (o : Binary) → Each Full (integerRule o a b)
+  integer-full =
+      each-integer Full a b (λ r. add-full a b r f g) (λ r. sub-full a b r f g) (λ r. mul-full a b r f g) (λ r. and-full a b r f g)
+      (λ r. quot-full a b r f g) (λ r. rem-full a b r f g) (λ r. udiv-full a b r f g) (λ r. urem-full a b r f g)
+
+  bits-full : Small (a .low) → (o : Binary) → Each Full (bitsRule o a b)
+  bits-full s =
+      each-bits Full a b (λ r. add-full a b r f g) (λ r. sub-full a b r f g) (λ r. mul-full a b r f g) (λ r. and-full a b r f g)
+      (λ r. shl-full a b r f g) (λ r. shr-full a b r f g s)
+
+held-valid : (w : ℕ) (m : Option Interval) → Each Full m → Each (Valid (ty.Bits w)) (orElse (heldTo w m) (typeInterval (ty.Bits w)))
+held-valid w none f = type-valid (ty.Bits w)
+held-valid w (some a) f = each-else (Valid (ty.Bits w)) (filtered w a) (λ r. filtered-valid w a r (f a refl)) (type-valid (ty.Bits w))
+
+pub binary-valid : (o : Binary) (t ta tb : ScalarType) (ra rb r : Option Interval) → ((a : Interval) → ra ≡ some a → Valid ta a)
+    → ((a : Interval) → rb ≡ some a → Valid tb a) → ((a : Interval) → ra ≡ some a → Ends a) → binaryRange t o ra rb ≡ some r
+    → (a : Interval) → r ≡ some a → Valid t a
+unfolding binaryRange
+binary-valid o ty.Bool ta tb ra rb r f g ends e = subst (Each (Valid ty.Bool)) (some-is e) (type-valid ty.Bool)
+binary-valid o (ty.Bits w) ta tb ra rb r f g ends e =
+    subst (Each (Valid (ty.Bits w))) (some-is e) (held-valid w _ (λ c q.
+    let (a, b, i, j, k) = both-given (bitsRule o) ra rb q in
+    bits-full a b (f a i .full) (g b j .full) (ends a i .low) o c k))
+binary-valid o ty.Integer ta tb ra rb r f g ends e =
+    each-mapped (Each (Valid ty.Integer)) some (bothGiven ra rb (integerRule o))
+    (λ c q.
+    let (a, b, i, j, k) = both-given (integerRule o) ra rb q in
+    each-some (Valid ty.Integer) c (integer-valid (integer-full a b (f a i .full) (g b j .full) o c k))) r e
+
+pub unary-valid : (o : Unary) (t s : ScalarType) (ra r : Option Interval) → unaryTyped o s t ≡ true → ((a : Interval) → ra ≡ some a → Valid s a)
+    → unaryRange t o ra ≡ some r → (a : Interval) → r ≡ some a → Valid t a
+unfolding unaryRange
+unary-valid un.BoolNot t s ra r d f e = subst (Each (Valid t)) (some-is e) (type-valid t)
+unary-valid un.BitNot t s ra r d f e = subst (Each (Valid t)) (some-is e) (type-valid t)
+unary-valid un.Negate t s none r d f e = absurd (none-some e)
+unary-valid un.Negate t s (some p) r d f e =
+    let j : t ≡ ty.Integer = same-type t ty.Integer (tests (sameType s ty.Integer) (sameType t ty.Integer) d .1) in
+    rw j (each-mapped (Each (Valid ty.Integer)) some (negInterval p)
+    (λ a q. each-some (Valid ty.Integer) a (integer-valid (neg-full p a (f p refl .full) q))) r e)
+unary-valid (un.Truncate w) t s ra r d f e = subst (Each (Valid t)) (some-is e) (type-valid t)
+unary-valid (un.SignExtend w) ty.Bool s ra r d f e = subst (Each (Valid ty.Bool)) (some-is e) (type-valid ty.Bool)
+unary-valid (un.SignExtend w) (ty.Bits n) s ra r d f e = subst (Each (Valid (ty.Bits n))) (some-is e) (type-valid (ty.Bits n))
+unary-valid (un.SignExtend w) ty.Integer s ra r d f e = subst (Each (Valid ty.Integer)) (some-is e) (λ a q. integer-valid (extended-full w a q))
+unary-valid (un.LeadingZeros w) t s ra r d f e = subst (Each (Valid t)) (some-is e) (type-valid t)
+unary-valid (un.TrailingZeros w) t s ra r d f e = subst (Each (Valid t)) (some-is e) (type-valid t)
 
 -- ---- results are values of their types
 
 abbrev Below : ℕ → ℕ → Type 0
 Below k n = n < k
-
-bool-small : (b : Bool) → fromBool b < 2
-bool-small true = omega arith
-bool-small false = omega arith
 
 -- a count of bits is a pattern
 count-small : (n : ℕ) → n ≤ 128 → n < 2 ^ 128
@@ -316,7 +356,7 @@ refused a d = false≢true (tests a false d .1)
 
 bool-unary : (o : Unary) (s : ScalarType) (x : ℕ) → unaryTyped o s ty.Bool ≡ true → Each (Below 2) (evaluateUnary o x)
 unfolding evaluateUnary
-bool-unary un.BoolNot s x d = each-some (Below 2) _ (bool-small (eqb x 0))
+bool-unary un.BoolNot s x d = each-some (Below 2) _ (truth-small (eqb x 0))
 bool-unary un.BitNot s x d = absurd (false≢true (gives-bits s ty.Bool d))
 bool-unary un.Negate s x d = absurd (refused (sameType s ty.Integer) d)
 bool-unary (un.Truncate w) s x d = absurd (false≢true d)
@@ -363,12 +403,12 @@ module _ (a b : ScalarType) (x y : ℕ) (l : x < size a) (m : y < size b) where
   bool-binary bi.ShiftLeft d = absurd (false≢true d)
   bool-binary bi.ShiftRight d = absurd (false≢true d)
   bool-binary bi.ArithmeticShiftRight d = absurd (false≢true d)
-  bool-binary bi.Equal d = each-some (Below 2) _ (bool-small (eqb x y))
-  bool-binary bi.NotEqual d = each-some (Below 2) _ (bool-small (not (eqb x y)))
-  bool-binary bi.LessSigned d = each-some (Below 2) _ (bool-small (ltZ (signed 128 x) (signed 128 y)))
-  bool-binary bi.LessUnsigned d = each-some (Below 2) _ (bool-small (ltb x y))
-  bool-binary bi.LessEqualSigned d = each-some (Below 2) _ (bool-small (leZ (signed 128 x) (signed 128 y)))
-  bool-binary bi.LessEqualUnsigned d = each-some (Below 2) _ (bool-small (leb x y))
+  bool-binary bi.Equal d = each-some (Below 2) _ (truth-small (eqb x y))
+  bool-binary bi.NotEqual d = each-some (Below 2) _ (truth-small (not (eqb x y)))
+  bool-binary bi.LessSigned d = each-some (Below 2) _ (truth-small (ltZ (signed 128 x) (signed 128 y)))
+  bool-binary bi.LessUnsigned d = each-some (Below 2) _ (truth-small (ltb x y))
+  bool-binary bi.LessEqualSigned d = each-some (Below 2) _ (truth-small (leZ (signed 128 x) (signed 128 y)))
+  bool-binary bi.LessEqualUnsigned d = each-some (Below 2) _ (truth-small (leb x y))
   bool-binary bi.DivideSigned d = absurd (false≢true d)
   bool-binary bi.RemainderSigned d = absurd (false≢true d)
   bool-binary bi.DivideUnsigned d = absurd (false≢true d)
@@ -396,9 +436,9 @@ module _ (a b : ScalarType) (x y : ℕ) (l : x < size a) (m : y < size b) where
   integer-binary bi.DivideSigned d = signed-patterns i128.checked-div x y
   integer-binary bi.RemainderSigned d = signed-patterns i128.checked-rem x y
   integer-binary bi.DivideUnsigned d =
-      each-if (Below (2 ^ 128)) (ltb 0 y) _ (each-some (Below (2 ^ 128)) _ (lt-of-le-of-lt (div-le-self x y) (operands-small ty.Integer d .0)))
+      each-provided (Below (2 ^ 128)) (ltb 0 y) (λ q. each-some (Below (2 ^ 128)) _ (lt-of-le-of-lt (div-le-self x y) (operands-small ty.Integer d .0)))
   integer-binary bi.RemainderUnsigned d =
-      each-if (Below (2 ^ 128)) (ltb 0 y) _ (each-some (Below (2 ^ 128)) _ (lt-of-le-of-lt (mod-le x y) (operands-small ty.Integer d .0)))
+      each-provided (Below (2 ^ 128)) (ltb 0 y) (λ q. each-some (Below (2 ^ 128)) _ (lt-of-le-of-lt (mod-le x y) (operands-small ty.Integer d .0)))
 
 pub binary-small : (o : Binary) (a b t : ScalarType) (x y v : ℕ) → storedTyped o a b t ≡ true → typeWidth t ≤ 128 → x < size a → y < size b
     → evaluateBinary o t x y ≡ some v → v < size t
@@ -468,6 +508,9 @@ module _ {ρ : Env} {g : List ℕ} (i : Inv ρ g) (n : ℕ) (l : n < countOf g) 
         };
         width = wide;
         below = omega arith;
+        offset = omega arith;
+        parameter = width;
+        valid = unary-valid o t (typeAt g n) (rangeAt g n) r typed (inv-valid i n l) e;
         typed = typed;
         refined = tt;
         ends = ends;

@@ -3,7 +3,7 @@ use mathlib.Core.Path.{_≡_, refl, sym, ap, _∙_}
 use mathlib.Core.Bool.{Bool, true, false}
 use mathlib.Core.List.{List, [], _∷_, _++_}
 use mathlib.Core.Option.{Option, none, some}
-use Prim.Native.Nat.{ℕ, zero, suc, _+_, _*_, _/_, _^_, _≤_, _<_}
+use Prim.Native.Nat.{ℕ, zero, suc, _+_, _≤_, _<_}
 use native.Mathlib.Decide.{decLt}
 use native.Mathlib.Numerals.{add-one}
 use native.Mathlib.Omega.{arith}
@@ -11,34 +11,32 @@ use borrow.Author.Tests.{lt-ltb, ltb-true}
 use lib.Dec.{ltb}
 use lib.ListN.{length, getD, length-append, List·getD-append}
 use lib.Seq.{getD-at}
-use Rattle.word.specs.Value.{only}
 use Rattle.range.specs.declared.ScalarType.{ScalarType}
-use Rattle.evaluate.specs.Evaluate.{reduced, evaluateUnary, evaluateBinary}
+use Rattle.range.proofs.Answers.{none-some, some-is, provided-is}
+use Rattle.evaluate.specs.Evaluate.{fromBool, evaluateUnary, evaluateBinary}
 use Rattle.graph.specs.Node as node
 use Rattle.graph.specs.Node.{Op, typeAt, operationAt}
 use Rattle.graph.specs.Insert.{start}
-use Rattle.meaning.specs.Value.{Env, size, ofType, valued, andThen, operationMeans, values, value}
+use Rattle.meaning.specs.Value.{Env, size, ofType, andThen, operationMeans, values, value}
 
 -- ---- defined values
-
-pub none-some : {n : ℕ} → none ≡ some n → ⊥
-none-some e = let z : _≡_ {A = ℕ} 0 1 = cc in omega arith
-
-pub some-is : {a b : ℕ} → some a ≡ some b → a ≡ b
-some-is e = cc
 
 -- a defined value of a type
 pub typed-is : (t : ScalarType) (x v : ℕ) → ofType t x ≡ some v → (v ≡ x) × (v < size t)
 unfolding ofType
-typed-is t x v e = go (ltb x (size t)) refl e
-  where
-    go : (b : Bool) → ltb x (size t) ≡ b → only b x ≡ some v → (v ≡ x) × (v < size t)
-    go true q e = let s : v ≡ x = sym (some-is e) in (s, rw s (ltb-true x (size t) q))
-    go false q e = absurd (none-some e)
+typed-is t x v e =
+    let p = provided-is (ltb x (size t)) (some x) e in
+    let s : v ≡ x = sym (some-is (p .1)) in
+    (s, rw s (ltb-true x (size t) (p .0)))
 
 pub typed-of : (t : ScalarType) (x : ℕ) → x < size t → ofType t x ≡ some x
 unfolding ofType
 typed-of t x l = rw (lt-ltb x (size t) l)
+
+-- a test as a number is a Bool
+pub truth-small : (b : Bool) → fromBool b < 2
+truth-small true = omega arith
+truth-small false = omega arith
 
 pub then-is : (a : Option ℕ) (f : ℕ → Option ℕ) (v : ℕ) → andThen a f ≡ some v → (x : ℕ) × (a ≡ some x) × (f x ≡ some v)
 then-is none f v e = absurd (none-some e)
@@ -97,21 +95,16 @@ value-step ρ g n b = means-same ρ (typeAt g n) n (operationAt g n) b _ (value 
 
 -- a defined value is of its node's type
 pub means-small : (ρ : Env) (t : ScalarType) (o : Op) (f : ℕ → Option ℕ) (v : ℕ) → operationMeans ρ t o f ≡ some v → v < size t
-means-small ρ t (node.constant c) f v e = typed-is t (reduced t c) v e .1
-means-small ρ t (node.input i) f v e = typed-is t (ρ .input i) v e .1
-means-small ρ t (node.refine i) f v e = let p = then-is (f i) (ofType t) v e in typed-is t (p .0) v (p .2) .1
-means-small ρ t (node.effect i) f v e = typed-is t (ρ .effect i) v e .1
-means-small ρ t (node.slice i o w) f v e = let p = then-is (f i) (λ x. valued t (x / 2 ^ o)) v e in typed-is t (reduced t (p .0 / 2 ^ o)) v (p .2) .1
-means-small ρ t (node.concat i j k) f v e =
-    let p = then-is (f i) (λ x. andThen (f j) (λ y. valued t (x * 2 ^ k + y))) v e in
-    let q = then-is (f j) (λ y. valued t (p .0 * 2 ^ k + y)) v (p .2) in
-    typed-is t (reduced t (p .0 * 2 ^ k + q .0)) v (q .2) .1
+means-small ρ t (node.constant c) f v e = typed-is t _ v e .1
+means-small ρ t (node.input i) f v e = typed-is t _ v e .1
+means-small ρ t (node.refine i) f v e = typed-is t _ v (then-is (f i) _ v e .2) .1
+means-small ρ t (node.effect i) f v e = typed-is t _ v e .1
+means-small ρ t (node.slice i o w) f v e = typed-is t _ v (then-is (f i) _ v e .2) .1
+means-small ρ t (node.concat i j k) f v e = typed-is t _ v (then-is (f j) _ v (then-is (f i) _ v e .2) .2) .1
 means-small ρ t (node.unary u i) f v e =
-    let p = then-is (f i) (λ x. andThen (evaluateUnary u x) (valued t)) v e in
-    let q = then-is (evaluateUnary u (p .0)) (valued t) v (p .2) in
-    typed-is t (reduced t (q .0)) v (q .2) .1
+    let p = then-is (f i) _ v e in
+    typed-is t _ v (then-is (evaluateUnary u (p .0)) _ v (p .2) .2) .1
 means-small ρ t (node.binary o i j) f v e =
-    let p = then-is (f i) (λ x. andThen (f j) (λ y. andThen (evaluateBinary o t x y) (ofType t))) v e in
-    let q = then-is (f j) (λ y. andThen (evaluateBinary o t (p .0) y) (ofType t)) v (p .2) in
-    let r = then-is (evaluateBinary o t (p .0) (q .0)) (ofType t) v (q .2) in
-    typed-is t (r .0) v (r .2) .1
+    let p = then-is (f i) _ v e in
+    let q = then-is (f j) _ v (p .2) in
+    typed-is t _ v (then-is (evaluateBinary o t (p .0) (q .0)) _ v (q .2) .2) .1

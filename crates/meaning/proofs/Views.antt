@@ -1,6 +1,6 @@
 -- A value seen at another type: identity's plan claims what is asked of it. Assumes nothing.
 use mathlib.Core.Path.{_≡_, refl, sym, ap, _∙_, subst}
-use mathlib.Core.Bool.{Bool, true, false, cond, false≢true}
+use mathlib.Core.Bool.{Bool, true, false, false≢true}
 use mathlib.Core.List.{List}
 use mathlib.Core.Logic.{⊎-elim}
 use mathlib.Core.Option.{Option, none, some}
@@ -14,11 +14,13 @@ use lib.Pow.{lt-of-le-ones}
 use lib.Signed.{mag, leZ, _≤ℤ_}
 use Rattle.word.specs.Value.{isNeg, signed}
 use Rattle.word.proofs.Integer.{signed-low}
-use Rattle.range.specs.Interval.{Interval, _∈_, nonnegative, insideBits}
+use Rattle.range.specs.Interval.{Interval, _∈_, nonnegative, insideBits, insideType}
 use Rattle.range.specs.declared.ScalarType.{ScalarType}
 use Rattle.range.specs.declared.ScalarType.the-variants as ty
 use Rattle.range.proofs.Order.{le-parts}
 use Rattle.range.proofs.Sound.{tests, either}
+use Rattle.range.proofs.Answers.{some-is}
+use Rattle.range.proofs.Valid.{Valid}
 use Rattle.evaluate.specs.Evaluate.{evaluateUnary}
 use Rattle.evaluate.specs.Operator.{typeWidth}
 use Rattle.evaluate.specs.declared.Unary.the-variants as un
@@ -26,12 +28,14 @@ use Rattle.graph.specs.Layout.{countOf}
 use Rattle.graph.specs.Node as node
 use Rattle.graph.specs.Node.{typeAt, rangeAt, operationAt}
 use Rattle.fold.specs.Shape.{sameType, notNegative, fits}
+use Rattle.native.specs.Typing.{isNumber, sameTypes, arithmetic}
 use Rattle.plan.specs.Plan as plan
 use Rattle.plan.specs.Single.{viewPlan, identityPlan}
 use Rattle.meaning.specs.Value.{Env, size, integerOf, ofType, valued, andThen, unaryMeans, value}
-use Rattle.meaning.proofs.Values.{some-is, typed-is, typed-of, then-is, means-small}
-use Rattle.meaning.proofs.Invariant.{Ends, Inv, inv-step, Storable}
-use Rattle.meaning.proofs.Constants.{the, pattern, valued-same, signed-parts, stored-low, stored-high}
+use Rattle.meaning.proofs.Values.{typed-is, typed-of, then-is, means-small}
+use Rattle.meaning.proofs.Invariant.{Ends, Inv, inv-step, inv-valid, Storable}
+use Rattle.meaning.proofs.Constants.{pattern, valued-same, signed-parts, stored-low, stored-high}
+use Rattle.meaning.proofs.Answers.{by-test}
 use Rattle.meaning.proofs.Plans.{Covers, Claim}
 
 -- ---- types and values of nodes
@@ -47,17 +51,22 @@ same-type ty.Integer ty.Bool e = absurd (false≢true e)
 same-type ty.Integer (ty.Bits v) e = absurd (false≢true e)
 same-type ty.Integer ty.Integer e = refl
 
+-- two operands of the result's type
+pub same-types : (a b t : ScalarType) → sameTypes a b t ≡ true → (a ≡ t) × (b ≡ t)
+same-types a b t e = let p = tests (sameType a t) (sameType b t) e in (same-type a t (p .0), same-type b t (p .1))
+
+pub arithmetic-types : (a b t : ScalarType) → arithmetic a b t ≡ true → (isNumber t ≡ true) × (a ≡ t) × (b ≡ t)
+arithmetic-types a b t e =
+    let p = tests (isNumber t) (sameTypes a b t) e in
+    let q = same-types a b t (p .1) in
+    (p .0, q .0, q .1)
+
 module _ {ρ : Env} {g : List ℕ} (i : Inv ρ g) (n : ℕ) (l : n < countOf g) (v : ℕ) (e : value ρ g n ≡ some v) where
   pub value-small : v < size (typeAt g n)
   value-small = means-small ρ (typeAt g n) (operationAt g n) (value ρ g) v (sym (inv-step i n l) ∙ e)
 
   pub value-pattern : v < 2 ^ 128
   value-pattern = pattern (typeAt g n) v (i .width n l) value-small
-
--- by a test, whichever way it goes
-pub by-test : {A : Type 0} (P : A → Type 0) (b : Bool) {x y : A} → (b ≡ true → P x) → (b ≡ false → P y) → P (cond b x y)
-by-test P true f h = f refl
-by-test P false f h = h refl
 
 -- ---- values in ranges that are not negative
 
@@ -144,7 +153,7 @@ module _ {ρ : Env} {g : List ℕ} (i : Inv ρ g) (v : ℕ) (l : v < countOf g) 
       p .1 ∙ ap some q
 
   module _ (t : ScalarType) (wide : typeWidth t ≤ 128) (a : Interval) (e : rangeAt g v ≡ some a) (up : nonnegative a ≡ true)
-      (small : (x : ℕ) → value ρ g v ≡ some x → x < size t) where
+      (inside : insideType t a ≡ true) (small : (x : ℕ) → value ρ g v ≡ some x → x < size t) where
     refine-storable : Storable ρ g t (rangeAt g v) (node.refine v)
     refine-storable = record {
       stored = record {
@@ -156,6 +165,9 @@ module _ {ρ : Env} {g : List ℕ} (i : Inv ρ g) (v : ℕ) (l : v < countOf g) 
       };
       width = wide;
       below = omega arith;
+      offset = omega arith;
+      parameter = omega arith;
+      valid = λ b f. subst (Valid t) (some-is (sym e ∙ f)) (record { full = inv-valid i v l a e .full; inside = inside });
       typed = tt;
       refined = small;
       ends = i .ends v l;
@@ -163,7 +175,7 @@ module _ {ρ : Env} {g : List ℕ} (i : Inv ρ g) (v : ℕ) (l : v < countOf g) 
           let p = then-is (value ρ g v) (ofType t) x q in
           let same : p .0 ≡ x = sym (typed-is t (p .0) x (p .2) .0) in
           let m : value ρ g v ≡ some x = p .1 ∙ ap some same in
-          let c : a ≡ b = the (sym e ∙ f) in
+          let c : a ≡ b = some-is (sym e ∙ f) in
           subst (λ (b : Interval). (integerOf t x) ∈ b) c
           (any-within (typeAt g v) x a (value-pattern i v l x m) (i .ends v l a e) up (i .ranged v l x m a e) t);
     }
@@ -185,19 +197,19 @@ module _ {ρ : Env} {g : List ℕ} (i : Inv ρ g) (v : ℕ) (l : v < countOf g) 
       by-test (Claim ρ g ty.Bool (andThen (value ρ g v) (valued ty.Bool))) (fits 1 (rangeAt g v))
       (λ e.
       let f = fits-facts 1 (rangeAt g v) e in
-      refine-claim ty.Bool wide (f .0) (f .1) (tests (nonnegative (f .0)) _ (f .2) .0) (fits-small 1 (omega arith) (f .0) (f .1) (f .2)))
+      refine-claim ty.Bool wide (f .0) (f .1) (tests (nonnegative (f .0)) _ (f .2) .0) (f .2) (fits-small 1 (omega arith) (f .0) (f .1) (f .2)))
       (λ e. tt)
   view-claim (ty.Bits w) wide =
       by-test (Claim ρ g (ty.Bits w) (andThen (value ρ g v) (valued (ty.Bits w)))) (fits w (rangeAt g v))
       (λ e.
       let f = fits-facts w (rangeAt g v) e in
-      refine-claim (ty.Bits w) wide (f .0) (f .1) (tests (nonnegative (f .0)) _ (f .2) .0) (fits-small w wide (f .0) (f .1) (f .2)))
+      refine-claim (ty.Bits w) wide (f .0) (f .1) (tests (nonnegative (f .0)) _ (f .2) .0) (f .2) (fits-small w wide (f .0) (f .1) (f .2)))
       (λ e. ((wide, wide, l, eq-eqb w w refl), refl, truncate-covers w (value ρ g v)))
   view-claim ty.Integer wide =
       by-test (Claim ρ g ty.Integer (andThen (value ρ g v) (valued ty.Integer))) (notNegative (rangeAt g v))
       (λ e.
       let f = negative-facts (rangeAt g v) e in
-      refine-claim ty.Integer wide (f .0) (f .1) (f .2) (value-pattern i v l))
+      refine-claim ty.Integer wide (f .0) (f .1) (f .2) refl (value-pattern i v l))
       (λ e. tt)
 
   pub identity-claim : (t : ScalarType) → typeWidth t ≤ 128 → Claim ρ g t (andThen (value ρ g v) (valued t)) (identityPlan g t v)

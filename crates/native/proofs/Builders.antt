@@ -6,7 +6,6 @@ use Prim.Native.Nat.{ℕ}
 use native.Mathlib.Omega.{arith}
 use native.Mathlib.Nat.{le-refl}
 use lib.ListN.{length}
-use Rattle.range.specs.Interval.{both}
 use Rattle.graph.specs.Layout.{countOf}
 use Rattle.graph.specs.Insert.{Reply}
 use Rattle.graph.specs.WellFormed.{isGraph}

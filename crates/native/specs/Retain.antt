@@ -1,7 +1,6 @@
 -- The call of retain: question 6, the nodes left, and the region and the mapping after it.
 use mathlib.Core.Bool.{cond}
 use mathlib.Core.List.{List}
-use mathlib.Core.Path.{_≡_}
 use Prim.Native.Nat.{ℕ, _-_, _^_}
 use Rattle.evaluate.specs.Operator.{refusalNumber}
 use Rattle.graph.specs.Layout.{countOf}
@@ -44,7 +43,3 @@ retainInGraph g keep mapping =
 -- retain: question 1 first
 unfoldable pub retainCall : List ℕ → List ℕ → List ℕ → Retention
 retainCall g keep mapping = cond (isGraph g) (retainInGraph g keep mapping) (retention (refused 1) g mapping)
-
--- a number, a region and a mapping are those of a call
-abbrev pub numbered : ℕ → List ℕ → List ℕ → Retention → Type 0
-numbered n g mapping r = (n ≡ outcomeNumber (r .outcome)) × (g ≡ r .words) × (mapping ≡ r .mapping)

@@ -1,5 +1,5 @@
 -- Document 01's typing table: which types an operator takes and gives.
-use mathlib.Core.Bool.{Bool, true, false}
+use mathlib.Core.Bool.{Bool, true, false, cond}
 use Prim.Native.Nat.{ℕ, _-_}
 use lib.Dec.{leb}
 use Rattle.range.specs.Interval.{both}
@@ -8,8 +8,8 @@ use Rattle.range.specs.declared.ScalarType.the-variants as ty
 use Rattle.evaluate.specs.declared.Unary.{Unary}
 use Rattle.evaluate.specs.declared.Unary.the-variants as un
 use Rattle.evaluate.specs.declared.Binary.{Binary}
-use Rattle.evaluate.specs.declared.Binary.the-variants as bi
-use Rattle.fold.specs.Shape.{sameType}
+use Rattle.fold.specs.Operator.{bitwise, anyShift, comparisons}
+use Rattle.fold.specs.Shape.{sameType, isAny}
 
 -- Bits or Integer
 abbrev pub isNumber : ScalarType → Bool
@@ -57,25 +57,9 @@ comparison a b t = both (sameType t ty.Bool) (sameType a b)
 
 -- a binary operator from types a and b to type t
 abbrev pub binaryTyped : Binary → ScalarType → ScalarType → ScalarType → Bool
-binaryTyped bi.Add a b t = arithmetic a b t
-binaryTyped bi.Sub a b t = arithmetic a b t
-binaryTyped bi.Mul a b t = arithmetic a b t
-binaryTyped bi.And a b t = sameTypes a b t
-binaryTyped bi.Or a b t = sameTypes a b t
-binaryTyped bi.Xor a b t = sameTypes a b t
-binaryTyped bi.ShiftLeft a b t = shift a b t
-binaryTyped bi.ShiftRight a b t = shift a b t
-binaryTyped bi.ArithmeticShiftRight a b t = shift a b t
-binaryTyped bi.Equal a b t = comparison a b t
-binaryTyped bi.NotEqual a b t = comparison a b t
-binaryTyped bi.LessSigned a b t = comparison a b t
-binaryTyped bi.LessUnsigned a b t = comparison a b t
-binaryTyped bi.LessEqualSigned a b t = comparison a b t
-binaryTyped bi.LessEqualUnsigned a b t = comparison a b t
-binaryTyped bi.DivideSigned a b t = arithmetic a b t
-binaryTyped bi.RemainderSigned a b t = arithmetic a b t
-binaryTyped bi.DivideUnsigned a b t = arithmetic a b t
-binaryTyped bi.RemainderUnsigned a b t = arithmetic a b t
+binaryTyped o a b t =
+    cond (isAny bitwise o) (sameTypes a b t)
+    (cond (isAny anyShift o) (shift a b t) (cond (isAny comparisons o) (comparison a b t) (arithmetic a b t)))
 
 -- a concat of width w: high exactly Bits(w - low width), low exactly Bits(low width)
 abbrev pub concatTyped : ScalarType → ScalarType → ℕ → ℕ → Bool

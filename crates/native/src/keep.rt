@@ -2,7 +2,7 @@
 ghost use mathlib.Core.Bool.{true};
 ghost use mathlib.Core.Path.{_≡_};
 ghost use Rattle.graph.specs.WellFormed.{isGraph};
-ghost use Rattle.native.specs.Retain.{outcomeOf, numbered, retention, retainInGraph, retainCall};
+ghost use Rattle.native.specs.Retain.{outcomeOf, retention, retainInGraph, retainCall};
 use crate::Retained;
 use evaluate::Refusal;
 use graph::well_formed::is_graph;
@@ -27,20 +27,4 @@ pub fn retain(g: &mut [u64], keep: &[u8], mapping: &mut [u64]) -> Retained
     } else {
         Retained::Refused(Refusal::Graph)
     }
-}
-
-// The calls for C and Rust: the nodes left, or a refusal counted down from the largest number.
-#[no_mangle]
-pub extern "C" fn scalars_retain_in_graph(g: &mut [u64], keep: &[u8], mapping: &mut [u64]) -> u64
-    requires { ⌜ isGraph (now g) ≡ true ⌝ }
-    ensures { λ r. ⌜ numbered r (now (g .exit)) (now (mapping .exit)) (retainInGraph (now (g .entry)) (now (keep .entry)) (now (mapping .entry))) ⌝ }
-{
-    retain_in_graph(g, keep, mapping).number()
-}
-
-#[no_mangle]
-pub extern "C" fn scalars_retain(g: &mut [u64], keep: &[u8], mapping: &mut [u64]) -> u64
-    ensures { λ r. ⌜ numbered r (now (g .exit)) (now (mapping .exit)) (retainCall (now (g .entry)) (now (keep .entry)) (now (mapping .entry))) ⌝ }
-{
-    retain(g, keep, mapping).number()
 }

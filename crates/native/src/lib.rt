@@ -1,7 +1,5 @@
 // The calls: every question in order, then the work. A refusal leaves every lent word as it was.
 pub mod declare;
-pub mod export;
-pub mod export_operate;
 pub mod keep;
 pub mod look;
 pub mod operate;
@@ -11,12 +9,9 @@ ghost use mathlib.Core.Path.{_≡_};
 ghost use Rattle.graph.specs.Insert.{builtOf};
 ghost use Rattle.native.specs.Call.{answerOf, settled, answerNumber};
 ghost use Rattle.native.specs.Retain.{outcomeOf, outcomeNumber};
-use evaluate::Binary;
 use evaluate::Refusal;
-use evaluate::Unary;
 use graph::Built;
 use graph::NodeId;
-use range::ScalarType;
 
 // A node, the Rust's None, or a refusal.
 pub enum Answer {
@@ -29,23 +24,6 @@ pub enum Answer {
 pub enum Retained {
     Kept(u64),
     Refused(Refusal),
-}
-
-// A type by its code, if there is one.
-pub enum MaybeType {
-    Some(ScalarType),
-    None,
-}
-
-// An operator by its code, if there is one.
-pub enum MaybeUnary {
-    Some(Unary),
-    None,
-}
-
-pub enum MaybeBinary {
-    Some(Binary),
-    None,
 }
 
 impl Answer {

@@ -4,6 +4,8 @@ ghost use Rattle.evaluate.specs.declared.Unary.the-variants as un;
 ghost use Rattle.native.specs.Typing.{isNumber, isBits, isExtension, unaryTyped, sameTypes, arithmetic, shift, comparison, binaryTyped, concatTyped};
 use evaluate::Binary;
 use evaluate::Unary;
+use fold::operator;
+use fold::operator::is_bitwise;
 use fold::shape::same_type;
 use range::ScalarType;
 
@@ -149,27 +151,16 @@ fn is_comparison(a: ScalarType, b: ScalarType, to: ScalarType) -> bool
 pub(crate) fn is_binary_typed(op: Binary, a: ScalarType, b: ScalarType, to: ScalarType) -> bool
     ensures { λ r. ⌜ r ≡ binaryTyped op a b to ⌝ }
 {
-    match op {
-        Binary::Add => is_arithmetic(a, b, to),
-        Binary::Sub => is_arithmetic(a, b, to),
-        Binary::Mul => is_arithmetic(a, b, to),
-        Binary::And => are_same(a, b, to),
-        Binary::Or => are_same(a, b, to),
-        Binary::Xor => are_same(a, b, to),
-        Binary::ShiftLeft => is_shift(a, b, to),
-        Binary::ShiftRight => is_shift(a, b, to),
-        Binary::ArithmeticShiftRight => is_shift(a, b, to),
-        Binary::Equal => is_comparison(a, b, to),
-        Binary::NotEqual => is_comparison(a, b, to),
-        Binary::LessSigned => is_comparison(a, b, to),
-        Binary::LessUnsigned => is_comparison(a, b, to),
-        Binary::LessEqualSigned => is_comparison(a, b, to),
-        Binary::LessEqualUnsigned => is_comparison(a, b, to),
-        Binary::DivideSigned => is_arithmetic(a, b, to),
-        Binary::RemainderSigned => is_arithmetic(a, b, to),
-        Binary::DivideUnsigned => is_arithmetic(a, b, to),
-        Binary::RemainderUnsigned => is_arithmetic(a, b, to),
+    if is_bitwise(op) {
+        return are_same(a, b, to);
     }
+    if operator::is_shift(op) {
+        return is_shift(a, b, to);
+    }
+    if operator::is_comparison(op) {
+        return is_comparison(a, b, to);
+    }
+    is_arithmetic(a, b, to)
 }
 
 pub(crate) fn is_concat_typed(high: ScalarType, low: ScalarType, low_width: u16, width: u16) -> bool

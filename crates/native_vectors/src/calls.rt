@@ -11,7 +11,6 @@ use graph::read::binary_of;
 use graph::read::unary_of;
 use graph::well_formed::is_graph;
 use native::Answer;
-use native::MaybeType;
 use native::declare;
 use native::look;
 use native::operate;
@@ -19,6 +18,12 @@ use range::MaybeRange;
 use range::Range;
 use range::ScalarType;
 use word::Word;
+
+// A type by its code, if there is one.
+enum MaybeType {
+    Some(ScalarType),
+    None,
+}
 
 // What a call answers.
 pub(crate) enum Reply {

@@ -23,6 +23,21 @@ pub(crate) enum MaybeFields {
     None,
 }
 
+// The fields but the operands.
+struct Numbers {
+    kind: u64,
+    len: u64,
+    number: u64,
+    type_code: u64,
+    width: u16,
+    flag: u64,
+}
+
+enum MaybeNumbers {
+    Some(Numbers),
+    None,
+}
+
 // Hex digits and a space.
 fn field_of(text: &[u8]) -> Number {
     if text.len() == 0 {
@@ -46,49 +61,59 @@ fn operand_of(text: &[u8], after: u8) -> MaybeWord {
     word_of(&text[0..32])
 }
 
-pub(crate) fn fields_of(line: &[u8]) -> MaybeFields {
-    if line.len() != 102 {
-        return MaybeFields::None;
+// The numbers before the operands.
+fn numbers_of(text: &[u8]) -> MaybeNumbers {
+    if text.len() != 36 {
+        return MaybeNumbers::None;
     }
-    let first = field_of(&line[0..3]);
-    let second = field_of(&line[3..8]);
-    let third = field_of(&line[8..25]);
-    let fourth = field_of(&line[25..28]);
-    let fifth = field_of(&line[28..33]);
-    let sixth = field_of(&line[33..36]);
-    let seventh = operand_of(&line[36..69], b' ');
-    let eighth = operand_of(&line[69..102], b'\n');
-    let Number::Value(kind) = first else {
-        return MaybeFields::None;
+    let Number::Value(kind) = field_of(&text[0..3]) else {
+        return MaybeNumbers::None;
     };
-    let Number::Value(len) = second else {
-        return MaybeFields::None;
+    let Number::Value(len) = field_of(&text[3..8]) else {
+        return MaybeNumbers::None;
     };
-    let Number::Value(number) = third else {
-        return MaybeFields::None;
+    let Number::Value(number) = field_of(&text[8..25]) else {
+        return MaybeNumbers::None;
     };
-    let Number::Value(type_code) = fourth else {
-        return MaybeFields::None;
+    let Number::Value(type_code) = field_of(&text[25..28]) else {
+        return MaybeNumbers::None;
     };
-    let Number::Value(width) = fifth else {
-        return MaybeFields::None;
+    let Number::Value(width) = field_of(&text[28..33]) else {
+        return MaybeNumbers::None;
     };
-    let Number::Value(flag) = sixth else {
-        return MaybeFields::None;
+    let Number::Value(flag) = field_of(&text[33..36]) else {
+        return MaybeNumbers::None;
     };
-    let MaybeWord::Some(a) = seventh else {
-        return MaybeFields::None;
-    };
-    let MaybeWord::Some(b) = eighth else {
-        return MaybeFields::None;
-    };
-    MaybeFields::Some(Fields {
+    MaybeNumbers::Some(Numbers {
         kind: kind,
         len: len,
         number: number,
         type_code: type_code,
         width: (width % 65536) as u16,
         flag: flag,
+    })
+}
+
+pub(crate) fn fields_of(line: &[u8]) -> MaybeFields {
+    if line.len() != 102 {
+        return MaybeFields::None;
+    }
+    let MaybeNumbers::Some(numbers) = numbers_of(&line[0..36]) else {
+        return MaybeFields::None;
+    };
+    let MaybeWord::Some(a) = operand_of(&line[36..69], b' ') else {
+        return MaybeFields::None;
+    };
+    let MaybeWord::Some(b) = operand_of(&line[69..102], b'\n') else {
+        return MaybeFields::None;
+    };
+    MaybeFields::Some(Fields {
+        kind: numbers.kind,
+        len: numbers.len,
+        number: numbers.number,
+        type_code: numbers.type_code,
+        width: numbers.width,
+        flag: numbers.flag,
         a: a,
         b: b,
     })

@@ -9,7 +9,7 @@ use Rattle.evaluate.specs.declared.Binary.{Binary}
 use Rattle.graph.specs.Node.{Op, opOf}
 use Rattle.plan.specs.declared.Plan as declared
 use Rattle.plan.specs.declared.Plan.the-variants as plan
-use Rattle.fold.specs.Bitfield.{Mask, maskOf}
+use Rattle.bitfield.specs.Bitfield.{Mask, maskOf}
 use Rattle.plan.specs.declared.Attempt as declared-attempt
 use Rattle.plan.specs.declared.Attempt.the-variants as attempt
 use Rattle.plan.specs.declared.Rest as declared-rest

@@ -1,10 +1,9 @@
-// What a builder does next, read off the region, and the plans of identity, unary, modular, slice and concat. Nothing here writes.
+// What a builder does next, read off the region, and the plans of identity, unary and modular. Nothing here writes.
 pub mod single;
-pub mod slice;
 
+use bitfield::Masked;
 use evaluate::Binary;
 use evaluate::Unary;
-use fold::Masked;
 use graph::NodeId;
 use graph::Operation;
 use range::MaybeRange;
@@ -65,15 +64,4 @@ pub enum First {
 pub enum View {
     Same(NodeId),
     Source(NodeId),
-}
-
-// A slice: of which node, from which offset.
-pub struct Cut {
-    pub value: NodeId,
-    pub offset: u16,
-}
-
-pub enum MaybeCut {
-    Some(Cut),
-    None,
 }

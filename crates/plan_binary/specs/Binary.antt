@@ -16,10 +16,10 @@ use Rattle.evaluate.specs.declared.Binary.the-variants as bi
 use Rattle.graph.specs.Node as node
 use Rattle.graph.specs.Node.{typeAt, rangeAt}
 use Rattle.graph.specs.Insert.{literal}
-use Rattle.fold.specs.Operator.{commutative, shifts, equalities, zeroKeeps, zeroMakesZero, bitwise}
+use Rattle.fold.specs.Operator.{commutative, shifts, equalities, zeroKeeps, zeroMakesZero, bitwise, keptTwice, zeroTwice, trueTwice, falseTwice}
 use Rattle.fold.specs.Shape.{given, sameType, narrowType, sameBinary, isAny, fits, mask, isSome, Chain, chainAt, origin}
 use Rattle.fold.specs.Range.{bothGiven, binaryRange, comparison}
-use Rattle.fold.specs.Bitfield.{maskedComparison}
+use Rattle.bitfield.specs.Bitfield.{maskedComparison}
 use Rattle.plan.specs.Plan as plan
 use Rattle.plan.specs.Plan.{Plan, First, does, tries, binaryRest, constantOr}
 
@@ -107,25 +107,10 @@ comparedPlan o r s = truthPlan (bothGiven r s (comparison o))
 
 -- x with itself
 abbrev pub twice : ScalarType → Binary → ℕ → Option Plan
-twice t bi.Add x = none
-twice t bi.Sub x = some (plan.constant t 0)
-twice t bi.Mul x = none
-twice t bi.And x = some (plan.identity t x)
-twice t bi.Or x = some (plan.identity t x)
-twice t bi.Xor x = some (plan.constant t 0)
-twice t bi.ShiftLeft x = none
-twice t bi.ShiftRight x = none
-twice t bi.ArithmeticShiftRight x = none
-twice t bi.Equal x = some (plan.constant ty.Bool 1)
-twice t bi.NotEqual x = some (plan.constant ty.Bool 0)
-twice t bi.LessSigned x = some (plan.constant ty.Bool 0)
-twice t bi.LessUnsigned x = some (plan.constant ty.Bool 0)
-twice t bi.LessEqualSigned x = some (plan.constant ty.Bool 1)
-twice t bi.LessEqualUnsigned x = some (plan.constant ty.Bool 1)
-twice t bi.DivideSigned x = none
-twice t bi.RemainderSigned x = none
-twice t bi.DivideUnsigned x = none
-twice t bi.RemainderUnsigned x = none
+twice t o x =
+    cond (isAny keptTwice o) (some (plan.identity t x))
+    (cond (isAny zeroTwice o) (some (plan.constant t 0))
+    (cond (isAny trueTwice o) (some (plan.constant ty.Bool 1)) (only (isAny falseTwice o) (plan.constant ty.Bool 0))))
 
 -- ---- a constant on the right (455 to 491)
 

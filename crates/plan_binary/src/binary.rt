@@ -16,17 +16,21 @@ use crate::constant_right::literal_plan;
 use crate::constant_right::offset_plan;
 use crate::constant_right::sum_plan;
 use crate::shift::shift_plan;
+use bitfield::MaybeMasked;
+use bitfield::equality::masked_comparison;
 use evaluate::Binary;
 use evaluate::pattern::from_bool;
 use evaluate::two_operands::binary_value;
 use fold::Derived;
 use fold::MaybeBool;
-use fold::MaybeMasked;
 use fold::compare::compared;
-use fold::equality::masked_comparison;
 use fold::new_range::binary_range;
 use fold::operator::is_commutative;
 use fold::operator::is_equality;
+use fold::operator::is_false_twice;
+use fold::operator::is_kept_twice;
+use fold::operator::is_true_twice;
+use fold::operator::is_zero_twice;
 use fold::shape::is_some;
 use graph::NodeId;
 use graph::Operation;
@@ -93,27 +97,19 @@ fn zero(ty: ScalarType) -> MaybePlan
 fn twice(ty: ScalarType, op: Binary, id: NodeId) -> MaybePlan
     ensures { λ r. ⌜ decidedOf r ≡ twice ty op (id .0) ⌝ }
 {
-    match op {
-        Binary::Add => MaybePlan::None,
-        Binary::Sub => zero(ty),
-        Binary::Mul => MaybePlan::None,
-        Binary::And => MaybePlan::Some(Plan::Identity(ty, id)),
-        Binary::Or => MaybePlan::Some(Plan::Identity(ty, id)),
-        Binary::Xor => zero(ty),
-        Binary::ShiftLeft => MaybePlan::None,
-        Binary::ShiftRight => MaybePlan::None,
-        Binary::ArithmeticShiftRight => MaybePlan::None,
-        Binary::Equal => truth(true),
-        Binary::NotEqual => truth(false),
-        Binary::LessSigned => truth(false),
-        Binary::LessUnsigned => truth(false),
-        Binary::LessEqualSigned => truth(true),
-        Binary::LessEqualUnsigned => truth(true),
-        Binary::DivideSigned => MaybePlan::None,
-        Binary::RemainderSigned => MaybePlan::None,
-        Binary::DivideUnsigned => MaybePlan::None,
-        Binary::RemainderUnsigned => MaybePlan::None,
+    if is_kept_twice(op) {
+        return MaybePlan::Some(Plan::Identity(ty, id));
     }
+    if is_zero_twice(op) {
+        return zero(ty);
+    }
+    if is_true_twice(op) {
+        return truth(true);
+    }
+    if is_false_twice(op) {
+        return truth(false);
+    }
+    MaybePlan::None
 }
 
 fn twice_plan(ty: ScalarType, op: Binary, left: NodeId, right: NodeId) -> MaybePlan
@@ -133,17 +129,17 @@ fn decided_plan(g: &[u64], ty: ScalarType, op: Binary, left: NodeId, right: Node
 {
     let known = literal(g, right);
     let offset = offset_plan(g, ty, op, left, known);
-    if let MaybePlan::Some(plan) = offset {
-        return MaybePlan::Some(plan);
-    }
+    let MaybePlan::None = offset else {
+        return offset;
+    };
     let ranges = compared_plan(op, range_at(g, left), range_at(g, right));
-    if let MaybePlan::Some(plan) = ranges {
-        return MaybePlan::Some(plan);
-    }
+    let MaybePlan::None = ranges else {
+        return ranges;
+    };
     let same = twice_plan(ty, op, left, right);
-    if let MaybePlan::Some(plan) = same {
-        return MaybePlan::Some(plan);
-    }
+    let MaybePlan::None = same else {
+        return same;
+    };
     literal_plan(g, ty, op, left, right, known)
 }
 

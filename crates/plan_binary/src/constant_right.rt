@@ -32,10 +32,10 @@ use word::Word;
 pub(crate) fn or_plan(first: MaybePlan, second: MaybePlan) -> MaybePlan
     ensures { λ r. ⌜ decidedOf r ≡ orPlan (decidedOf first) (decidedOf second) ⌝ }
 {
-    match first {
-        MaybePlan::Some(plan) => MaybePlan::Some(plan),
-        MaybePlan::None => second,
-    }
+    let MaybePlan::None = first else {
+        return first;
+    };
+    second
 }
 
 fn zero_plan(ty: ScalarType, op: Binary, left: NodeId) -> MaybePlan
@@ -181,10 +181,10 @@ pub(crate) fn literal_plan(
         return MaybePlan::None;
     };
     let decided = right_plan(ty, op, left, right, value);
-    match decided {
-        MaybePlan::Some(plan) => MaybePlan::Some(plan),
-        MaybePlan::None => mask_plan(g, ty, op, left, right, value),
-    }
+    let MaybePlan::None = decided else {
+        return decided;
+    };
+    mask_plan(g, ty, op, left, right, value)
 }
 
 // The remainder by a power of two is an And.

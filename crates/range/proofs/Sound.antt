@@ -32,7 +32,7 @@ pub either : (s t : Bool) → one s t ≡ true → (s ≡ true) ⊎ (t ≡ true)
 either true t e = inl refl
 either false t e = inr e
 
-at-most : (x y : ℤ) → leZ x y ≡ true → x ≤ℤ y
+pub at-most : (x y : ℤ) → leZ x y ≡ true → x ≤ℤ y
 at-most x y e = leZ-yes (subst T (sym e) tt)
 
 pub within-in : (a : Interval) (z : ℤ) → within a z ≡ true → z ∈ a

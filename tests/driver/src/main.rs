@@ -60,7 +60,7 @@ fn library() -> Box<dyn Side> {
     return Box::new(library::Library);
     #[cfg(not(library))]
     {
-        eprintln!("built without the library: run `rt staticlib native`, and build again");
+        eprintln!("built without the library: run `rt staticlib export`, and build again");
         std::process::exit(2);
     }
 }

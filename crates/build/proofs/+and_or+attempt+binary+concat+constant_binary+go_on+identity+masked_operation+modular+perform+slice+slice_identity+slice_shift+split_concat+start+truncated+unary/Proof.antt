@@ -64,8 +64,8 @@ use Rattle.build.proofs.rest_of_builder.rest_plan.Reads as rest-plan-re
 use Rattle.plan.proofs.single.identity_plan.Reads as identity-plan-reads
 use Rattle.plan.proofs.single.modular_plan.Reads as modular-plan-reads
 use Rattle.plan.proofs.single.unary_first.Reads as unary-first-reads
-use Rattle.plan.proofs.slice.concat_first.Reads as concat-first-reads
-use Rattle.plan.proofs.slice.slice_first.Reads as slice-first-reads
+use Rattle.plan_slice.proofs.slice.concat_first.Reads as concat-first-reads
+use Rattle.plan_slice.proofs.slice.slice_first.Reads as slice-first-reads
 use Rattle.graph.proofs.insert.insert.Reads as insert-reads
 use Rattle.graph.proofs.leaf.constant.Reads as constant-reads
 use Rattle.graph.proofs.read.resolve.Reads as resolve-reads

@@ -1,32 +1,29 @@
--- `well_formed::are_zeros` meets its contract. The loop's invariant: the words from `at` on decide. The measure is what is left of the length.
-use mathlib.Core.Path.{_≡_, refl, sym, _∙_}
+-- `well_formed::are_zeros` meets its contract. The loop's invariant: the bits so far and the words from `at` on decide. The measure is what is left of the length.
+use mathlib.Core.Path.{_≡_, refl, sym, ap, _∙_}
 use Prim.Native.Nat.{_-_}
 use borrow.Author.Needs.{needs}
+use lib.Dec.{eqb}
 use lib.ListN.{length, drop}
+use Rattle.range.specs.Interval.{both}
 use Rattle.graph.specs.WellFormed.{areZeros}
-use Rattle.graph.proofs.Tests.{zeros-on, zeros-off, zeros-end}
+use Rattle.graph.proofs.Tests.{both-true, zeros-on, zeros-end}
 use Rattle.graph.proofs.well_formed.are_zeros.Statement.{statement}
 use Rattle.graph.proofs.well_formed.are_zeros.Tie as tie
 
 abbrev Inv-loop : tie.InvT-loop
-Inv-loop g from at₀ at = areZeros (drop from g) ≡ areZeros (drop at g)
+Inv-loop g from ones₀ at₀ ones at = areZeros (drop from g) ≡ both (eqb ones 0) (areZeros (drop at g))
 
 abbrev μ-loop : tie.MeasureT-loop
-μ-loop g from at₀ at = length g - at
+μ-loop g from ones₀ at₀ ones at = length g - at
 
 loop-holds : tie.Need-loop-holds Inv-loop μ-loop
 loop-holds c = refl
 
-mul-if1 : tie.Need-mul-if1 Inv-loop μ-loop
-mul-if1 c = search needs
+mul-ones : tie.Need-mul-ones Inv-loop μ-loop
+mul-ones c = search needs
 
-shared-slice-read-if1 : tie.Need-shared-slice-read-if1 Inv-loop μ-loop
-shared-slice-read-if1 c = search needs
-
-returns : tie.Need-returns Inv-loop μ-loop
-returns c =
-    let l = c .before .before .before .loop in
-    sym (l .inv ∙ zeros-off (c .before .before .before .before .args .g .now) (l .at) (c .before .before .loop-test .taken) (c .if1 .taken))
+shared-slice-read-ones : tie.Need-shared-slice-read-ones Inv-loop μ-loop
+shared-slice-read-ones c = search needs
 
 add-at : tie.Need-add-at Inv-loop μ-loop
 add-at c = search needs
@@ -36,13 +33,13 @@ loop-less c = search needs
 
 loop-again : tie.Need-loop-again Inv-loop μ-loop
 loop-again c =
-    let l = c .before .before .before .loop in
-    l .inv ∙ zeros-on (c .before .before .before .before .args .g .now) (l .at) (c .before .before .loop-test .taken) (c .if1 .left)
+    let l = c .before .before .loop in
+    l .inv ∙ zeros-on (c .before .before .before .args .g .now) (l .at) (l .ones) (c .before .loop-test .taken)
 
-returns-2 : tie.Need-returns-2 Inv-loop μ-loop
-returns-2 c =
+returns : tie.Need-returns Inv-loop μ-loop
+returns c =
     let l = c .before .loop in
-    sym (l .inv ∙ zeros-end (c .before .before .args .g .now) (l .at) (c .loop-test .left))
+    both-true (eqb (l .ones) 0) ∙ sym (l .inv ∙ ap (both (eqb (l .ones) 0)) (zeros-end (c .before .before .args .g .now) (l .at) (c .loop-test .left)))
 
 pub are-zeros-spec : {M : Type 1} → statement M
 are-zeros-spec =
@@ -51,10 +48,9 @@ are-zeros-spec =
     Inv-loop
     μ-loop
     loop-holds
-    mul-if1
-    shared-slice-read-if1
-    returns
+    mul-ones
+    shared-slice-read-ones
     add-at
     loop-less
     loop-again
-    returns-2)
+    returns)

@@ -14,17 +14,17 @@ returns c = simp (c .enum-told .given .1)
 right-plan-requires : tie.Need-right-plan-requires
 right-plan-requires c κs = search needs
 
-enum-known-decided : tie.Need-enum-known-decided
-enum-known-decided c = search needs
-
 enum-told-2 : tie.Need-enum-told-2
 enum-told-2 c = search needs
 
-mask-plan-requires : tie.Need-mask-plan-requires
-mask-plan-requires c κs = search needs
+enum-told-3 : tie.Need-enum-told-3
+enum-told-3 c = search needs
 
 returns-2 : tie.Need-returns-2
-returns-2 c = simp (c .before .before .before .before .before .known .given .1, ← c .before .before .before .right-plan .ensures, c .before .decided .given .1)
+returns-2 c = simp (c .before .before .before .before .known .given .1, ← c .before .before .right-plan .ensures, c .enum-told3 .given .1)
+
+mask-plan-requires : tie.Need-mask-plan-requires
+mask-plan-requires c κs = search needs
 
 returns-3 : tie.Need-returns-3
 returns-3 c = simp (c .before .before .before .before .before .known .given .1, ← c .before .before .before .right-plan .ensures, c .before .enum-told2 .given .1, ← c .mask-plan .ensures)
@@ -37,8 +37,8 @@ literal-plan-spec =
     enum-told
     returns
     right-plan-requires
-    enum-known-decided
     enum-told-2
-    mask-plan-requires
+    enum-told-3
     returns-2
+    mask-plan-requires
     returns-3)

@@ -1,0 +1,181 @@
+// A base compared with itself under a mask.
+ghost use mathlib.Core.Path.{_≡_};
+ghost use lib.ListN.{length};
+ghost use Rattle.word.specs.Value.{val};
+ghost use Rattle.graph.specs.Layout.{REGION};
+ghost use mathlib.Core.Option.{some};
+ghost use Rattle.range.specs.declared.ScalarType.the-variants as ty;
+ghost use Rattle.graph.specs.Node as node;
+ghost use Rattle.fold.specs.Shape.{oneChainOf};
+ghost use Rattle.bitfield.specs.Bitfield.{maskOf};
+ghost use Rattle.bitfield.specs.Bitfield.{maybeUpdateOf, oneUpdateOf, updateOf, updateAt, lookOf, keeps, changed, lookUpdate, lookTyped, lookAt, foundIn, maybeMaskOf, maskedComparison};
+use crate::Look;
+use crate::Masked;
+use crate::MaybeMasked;
+use crate::MaybeUpdate;
+use crate::Update;
+use evaluate::Binary;
+use fold::Chain;
+use fold::MaybeChain;
+use fold::operator::same_binary;
+use fold::shape::chain_at;
+use fold::shape::same_type;
+use graph::NodeId;
+use graph::Operation;
+use graph::read::literal;
+use graph::read::operation_at;
+use graph::read::type_at;
+use range::ScalarType;
+use range::typed::mask;
+use word::MaybeWord;
+use word::Word;
+
+// An update that sets nothing.
+fn whole(id: NodeId) -> MaybeUpdate
+    ensures { λ r. ⌜ maybeUpdateOf r ≡ some (record { preserved = id .0; literal = 0 }) ⌝ }
+{
+    MaybeUpdate::Some(Update {
+        preserved: id,
+        literal: Word { lo: 0, hi: 0 },
+    })
+}
+
+// An Or needs a constant, without which the fold ends.
+fn binary_update(g: &[u64], id: NodeId, op: Binary, left: NodeId, right: NodeId) -> MaybeUpdate
+    requires { ⌜ length (now g) ≡ REGION ⌝ }
+    ensures { λ r. ⌜ maybeUpdateOf r ≡ updateOf (now (g .entry)) (id .0) (node.binary op (left .0) (right .0)) ⌝ }
+{
+    if !same_binary(op, Binary::Or) {
+        return whole(id);
+    }
+    let value = literal(g, right);
+    match value {
+        MaybeWord::Some(constant) => MaybeUpdate::Some(Update {
+            preserved: left,
+            literal: constant,
+        }),
+        MaybeWord::None => MaybeUpdate::None,
+    }
+}
+
+fn update_at(g: &[u64], id: NodeId) -> MaybeUpdate
+    requires { ⌜ length (now g) ≡ REGION ⌝ }
+    ensures { λ r. ⌜ maybeUpdateOf r ≡ updateAt (now (g .entry)) (id .0) ⌝ }
+{
+    let operation = operation_at(g, id);
+    match operation {
+        Operation::Constant(_) => whole(id),
+        Operation::Input(_) => whole(id),
+        Operation::Refine(_) => whole(id),
+        Operation::Effect(_) => whole(id),
+        Operation::Slice {
+            value: _,
+            offset: _,
+            width: _,
+        } => whole(id),
+        Operation::Concat {
+            high: _,
+            low: _,
+            low_width: _,
+        } => whole(id),
+        Operation::Unary(_, _) => whole(id),
+        Operation::Binary(op, left, right) => binary_update(g, id, op, left, right),
+    }
+}
+
+// Is it base And keep, with no bit both kept and set?
+fn keeps(base: NodeId, width: u16, value: Word, chain: Chain) -> bool
+    ensures { λ r. ⌜ r ≡ keeps (base .0) width (val value) (oneChainOf chain) ⌝ }
+{
+    let op = chain.op;
+    let other = chain.base;
+    if same_binary(op, Binary::And) && other.0 == base.0 {
+        let shared = value.bitand(chain.value);
+        if shared.is_zero() {
+            return value.le(mask(width));
+        }
+    }
+    false
+}
+
+// The comparison of the bits that are not kept with the literal.
+fn changed(op: Binary, base: NodeId, width: u16, value: Word, chain: Chain) -> Masked
+    ensures { λ r. ⌜ maskOf r ≡ changed op (base .0) width (val value) (oneChainOf chain) ⌝ }
+{
+    let keep = chain.value;
+    let rest = keep.not();
+    Masked {
+        ty: ScalarType::Bits(width),
+        base: base,
+        mask: rest.bitand(mask(width)),
+        result: ScalarType::Bool,
+        op: op,
+        literal: value,
+    }
+}
+
+fn look_update(g: &[u64], op: Binary, base: NodeId, width: u16, update: Update) -> Look
+    requires { ⌜ length (now g) ≡ REGION ⌝ }
+    ensures { λ r. ⌜ lookOf r ≡ lookUpdate (now (g .entry)) op (base .0) width (oneUpdateOf update) ⌝ }
+{
+    let literal = update.literal;
+    let preserved = chain_at(g, update.preserved);
+    let MaybeChain::Some(chain) = preserved else {
+        return Look::Next;
+    };
+    if keeps(base, width, literal, chain) {
+        Look::Found(changed(op, base, width, literal, chain))
+    } else {
+        Look::Next
+    }
+}
+
+fn look_bits(g: &[u64], op: Binary, base: NodeId, updated: NodeId, width: u16) -> Look
+    requires { ⌜ length (now g) ≡ REGION ⌝ }
+    ensures { λ r. ⌜ lookOf r ≡ lookTyped (now (g .entry)) op (base .0) (updated .0) (ty.Bits width) ⌝ }
+{
+    if !same_type(type_at(g, updated), ScalarType::Bits(width)) {
+        return Look::Next;
+    }
+    let found = update_at(g, updated);
+    match found {
+        MaybeUpdate::Some(update) => look_update(g, op, base, width, update),
+        MaybeUpdate::None => Look::End,
+    }
+}
+
+// One pair of base and update.
+fn look_at(g: &[u64], op: Binary, base: NodeId, updated: NodeId) -> Look
+    requires { ⌜ length (now g) ≡ REGION ⌝ }
+    ensures { λ r. ⌜ lookOf r ≡ lookAt (now (g .entry)) op (base .0) (updated .0) ⌝ }
+{
+    let ty = type_at(g, base);
+    match ty {
+        ScalarType::Bool => Look::Next,
+        ScalarType::Bits(width) => look_bits(g, op, base, updated, width),
+        ScalarType::Integer => Look::Next,
+    }
+}
+
+fn found_in(look: Look) -> MaybeMasked
+    ensures { λ r. ⌜ maybeMaskOf r ≡ foundIn (lookOf look) ⌝ }
+{
+    match look {
+        Look::Next => MaybeMasked::None,
+        Look::End => MaybeMasked::None,
+        Look::Found(masked) => MaybeMasked::Some(masked),
+    }
+}
+
+// The masked comparison of two nodes: the left one as base, or where it says so the right one.
+pub fn masked_comparison(g: &[u64], op: Binary, left: NodeId, right: NodeId) -> MaybeMasked
+    requires { ⌜ length (now g) ≡ REGION ⌝ }
+    ensures { λ r. ⌜ maybeMaskOf r ≡ maskedComparison (now (g .entry)) op (left .0) (right .0) ⌝ }
+{
+    let look = look_at(g, op, left, right);
+    match look {
+        Look::Next => found_in(look_at(g, op, right, left)),
+        Look::End => MaybeMasked::None,
+        Look::Found(masked) => MaybeMasked::Some(masked),
+    }
+}

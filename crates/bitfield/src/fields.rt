@@ -1,0 +1,130 @@
+// The bits of a concat, where each is known or one node's own at its place.
+ghost use mathlib.Core.Path.{_≡_};
+ghost use lib.ListN.{length};
+ghost use Rattle.word.specs.Value.{val};
+ghost use Rattle.graph.specs.Layout.{REGION};
+ghost use Rattle.fold.specs.Shape.{idOf};
+ghost use Rattle.bitfield.specs.Bitfield.{maybeBitOf, oneBitOf, fieldOf, maybeFieldOf, power, sameBase, withBit, concatBit, lowFits, bitfield, noBits, fieldFrom};
+use crate::Bit;
+use crate::Field;
+use crate::MaybeBit;
+use crate::MaybeField;
+use crate::bits::DEPTH;
+use crate::bits::bit;
+use fold::MaybeId;
+use fold::shape::fits;
+use fold::shape::is_narrow;
+use graph::NodeId;
+use graph::read::range_at;
+use graph::read::type_at;
+use word::Word;
+
+// The pattern in which one bit is set.
+fn power(index: u16) -> Word
+    ensures { λ r. ⌜ val r ≡ power index ⌝ }
+{
+    let one = Word { lo: 1, hi: 0 };
+    one.unbounded_shl(index as u32)
+}
+
+// Is there no node yet, or this one?
+fn is_base(base: MaybeId, id: NodeId) -> bool
+    ensures { λ r. ⌜ r ≡ sameBase (idOf base) (id .0) ⌝ }
+{
+    match base {
+        MaybeId::Some(other) => other.0 == id.0,
+        MaybeId::None => true,
+    }
+}
+
+fn with_bit(field: Field, index: u16, bit: Bit) -> MaybeField
+    ensures { λ r. ⌜ maybeFieldOf r ≡ withBit (fieldOf field) index (oneBitOf bit) ⌝ }
+{
+    let base = field.base;
+    let keep = field.keep;
+    let literal = field.literal;
+    match bit {
+        Bit::Known(value) => {
+            let ones = if value {
+                literal.bitor(power(index))
+            } else {
+                literal
+            };
+            MaybeField::Some(Field {
+                base: base,
+                keep: keep,
+                literal: ones,
+            })
+        }
+        Bit::Source(id, source) => {
+            if source == index as u64 && is_base(base, id) {
+                return MaybeField::Some(Field {
+                    base: MaybeId::Some(id),
+                    keep: keep.bitor(power(index)),
+                    literal: literal,
+                });
+            }
+            MaybeField::None
+        }
+    }
+}
+
+fn concat_bit(g: &[u64], high: NodeId, low: NodeId, low_width: u16, index: u16) -> MaybeBit
+    requires { ⌜ length (now g) ≡ REGION ⌝ }
+    ensures { λ r. ⌜ maybeBitOf r ≡ concatBit (now (g .entry)) (high .0) (low .0) «low_width» index ⌝ }
+{
+    if index < low_width {
+        bit(g, low, index as u64, DEPTH)
+    } else {
+        bit(g, high, (index - low_width) as u64, DEPTH)
+    }
+}
+
+// Has the low part no bits from its width on?
+fn low_fits(g: &[u64], low: NodeId, low_width: u16) -> bool
+    requires { ⌜ length (now g) ≡ REGION ⌝ }
+    ensures { λ r. ⌜ r ≡ lowFits (now (g .entry)) (low .0) «low_width» ⌝ }
+{
+    if is_narrow(type_at(g, low), low_width) {
+        true
+    } else {
+        fits(range_at(g, low), low_width)
+    }
+}
+
+fn all_bits(g: &[u64], high: NodeId, low: NodeId, low_width: u16, width: u16) -> MaybeField
+    requires { ⌜ length (now g) ≡ REGION ⌝ }
+    ensures { λ r. ⌜ maybeFieldOf r ≡ fieldFrom (now (g .entry)) (high .0) (low .0) «low_width» 0 width noBits ⌝ }
+{
+    let mut field = Field {
+        base: MaybeId::None,
+        keep: Word { lo: 0, hi: 0 },
+        literal: Word { lo: 0, hi: 0 },
+    };
+    let mut index = 0;
+    while index < width {
+        let bit = concat_bit(g, high, low, low_width, index);
+        let MaybeBit::Some(found) = bit else {
+            return MaybeField::None;
+        };
+        let next = with_bit(field, index, found);
+        let MaybeField::Some(longer) = next else {
+            return MaybeField::None;
+        };
+        field = longer;
+        index += 1;
+    }
+    MaybeField::Some(field)
+}
+
+// The bits of a concat, if all are known or one node's own.
+pub fn bitfield(g: &[u64], high: NodeId, low: NodeId, low_width: u16, width: u16) -> MaybeField
+    requires { ⌜ length (now g) ≡ REGION ⌝ }
+    ensures { λ r. ⌜ maybeFieldOf r ≡ bitfield (now (g .entry)) (high .0) (low .0) «low_width» width ⌝ }
+{
+    if low_fits(g, low, low_width) {
+        all_bits(g, high, low, low_width, width)
+    } else {
+        MaybeField::None
+    }
+}

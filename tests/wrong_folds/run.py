@@ -1,0 +1,159 @@
+#!/usr/bin/env python3
+"""Shows that a wrong fold is refused for its meaning, and not only because code and definition differ.
+
+    python3 tests/wrong_folds/run.py > docs/WRONG_FOLDS.md
+
+The crates under `meaning` are copied without their code: types, definitions and the laws that demand 3 stands on stay. In this copy no contract is left
+that could refuse a definition, and each wrong definition below, if it is refused, is refused by a law about what nodes mean.
+"""
+import os
+import pathlib
+import re
+import shutil
+import subprocess
+import sys
+import tempfile
+
+ROOT = pathlib.Path(__file__).resolve().parents[2]
+
+# what is wrong; crate; file of specs/; old text; new text
+WRONG = [
+    ("literal and keep not apart in the masked comparison", "bitfield", "Bitfield",
+     "(both (eqb (bitAnd v (c .value)) 0) (leb v (mask w)))", "(leb v (mask w))"),
+    ("the base of a masked comparison not compared", "bitfield", "Bitfield",
+     "(both (eqb (c .base) base) (both", "(both (one (eqb (c .base) base) true) (both"),
+    ("bits of `high` taken above the concat's width", "bitfield", "Bitfield",
+     "fieldFrom g high low v 0 w noBits", "fieldFrom g high low v 0 128 noBits"),
+    ("a bit inverted by an Xor passed on as it is", "bitfield", "Bitfield",
+     "(cond set (flipped p i) (from p i))", "(cond set (from p i) (from p i))"),
+    ("Or and And swapped in a bit", "bitfield", "Bitfield",
+     "(cond (sameBinary o bi.Or) (cond set (here (known true)) (from p i))", "(cond (sameBinary o bi.Or) (cond set (from p i) (here (known true)))"),
+    ("an offset with the sign turned", "plan_binary", "Binary",
+     "(some (u128.wrapping-add target offset))", "(some (u128.wrapping-sub target offset))"),
+    ("a remainder by a power of two that keeps one bit too many", "plan_binary", "Binary",
+     "(plan.constantBinary t (b - 1) t bi.And left)", "(plan.constantBinary t b t bi.And left)"),
+    ("a shift of a shift by the wrong sum", "plan_binary", "Binary",
+     "(plan.constantBinary ty.Integer (c .value + count) (ty.Bits w) o (c .base))", "(plan.constantBinary ty.Integer count (ty.Bits w) o (c .base))"),
+    ("Sub of Sub by the difference of the constants", "plan_binary", "Binary",
+     "(lessMore t (c .base) (evaluateBinary bi.Add t (c .value) b))", "(lessMore t (c .base) (evaluateBinary bi.Sub t (c .value) b))"),
+    ("Sub of a node and itself is the node", "fold", "Operator",
+     "keptTwice = bi.And ∷", "keptTwice = bi.Sub ∷ bi.And ∷"),
+    ("comparison by ranges with ≤ for <", "fold", "Range",
+     "lessRanges a b = cond (ltZ (a .high) (b .low)) (some true)", "lessRanges a b = cond (leZ (a .high) (b .low)) (some true)"),
+    ("unsigned comparison by signed ranges that may be negative", "fold", "Range",
+     "(provided (unsignedToo a b) (lessRanges a b))", "(lessRanges a b)"),
+    ("truncation pushed through a division", "fold", "Operator",
+     "modularOps = bi.Add ∷", "modularOps = bi.DivideUnsigned ∷ bi.Add ∷"),
+    ("operands of Sub change places", "fold", "Operator",
+     "commutative = bi.Add ∷", "commutative = bi.Sub ∷ bi.Add ∷"),
+    ("a sign extension dropped at 2^(w−1)", "plan", "Single",
+     "(fits (w - 1) r)", "(fits w r)"),
+    ("an identity to Integer of a negative range", "plan", "Single",
+     "cond (notNegative r) (plan.add ty.Integer r (node.refine v)) plan.stop", "plan.add ty.Integer r (node.refine v)"),
+    ("a narrower reduction passed over", "plan", "Single",
+     "isWide (ty.Bits v) w = leb w v", "isWide (ty.Bits v) w = true"),
+    ("a slice of the concat's high part not moved down", "plan_slice", "Slice",
+     "(plan.slice high (o - v) w)", "(plan.slice high o w)"),
+    ("two slices joined that are not side by side", "plan_slice", "Slice",
+     "(eqb (a .offset) (b .offset + v))", "(leb (b .offset + v) (a .offset))"),
+    ("a product's range without one corner", "range", "Interval",
+     "(fitted (a .low *ℤ b .high)) (fitted (a .high *ℤ b .low))", "(fitted (a .low *ℤ b .high)) (fitted (a .low *ℤ b .high))"),
+    ("a remainder's range without 0", "range", "Interval",
+     "low = minZ (maxZ (a .low) (pos 1 -ℤ m)) (pos 0);", "low = maxZ (a .low) (pos 1 -ℤ m);"),
+    ("a constant's range for 2^127", "graph", "Insert",
+     "constantInterval (ty.Bits w) v = cond (isNeg (signed 128 v)) none (some (point (signed 128 v)))", "constantInterval (ty.Bits w) v = some (point (signed 128 v))"),
+    ("interning that passes over the lowest equal node", "graph", "Insert",
+     "foundOr g (some n) m = made (id (resolve g n)) g", "foundOr g (some n) m = m"),
+    ("an answer that is not resolved, and may be of another node", "graph", "Insert",
+     "foundOr g (some n) m = made (id (resolve g n)) g", "foundOr g (some n) m = made (id (n + 1)) g"),
+    ("an operand that is not renumbered by retain", "retain", "Retain",
+     "hasSecond code = one (eqb code 5)", "hasSecond code = both (eqb code 5)"),
+    ("a retained line that keeps its old id", "meaning", "Book",
+     "(record { id = newId keep (l .id); val = l .val }", "(record { id = l .id; val = l .val }"),
+    ("a declaration whose condition is not noted", "meaning", "Book",
+     "conditions = cs ++ b .conditions", "conditions = b .conditions"),
+    ("Concat's parts swapped in what it means", "meaning", "Value",
+     "valued t (x * 2 ^ v + y)", "valued t (y * 2 ^ v + x)"),
+    ("Slice's offset left out of what it means", "meaning", "Value",
+     "valued t (v / 2 ^ o)", "valued t v"),
+    ("Integer read unsigned where a range is compared", "meaning", "Value",
+     "integerOf ty.Integer v = signed 128 v", "integerOf ty.Integer v = pos v"),
+]
+
+
+def without_code(source, target, laws):
+    """src/ keeps its types alone, proofs/ the laws that are needed."""
+    text = (source / "src" / "lib.rt").read_text()
+    found = re.findall(r"(?:^//[^\n]*\n)*^pub (?:enum|struct) \w+\s*(?:\([^)]*\);|\{.*?^\})", text, re.M | re.S)
+    uses = re.findall(r"^use (?!crate)\w+::[A-Z]\w*;\n", text, re.M)
+    named = [u for u in uses if re.search(r"\b%s\b" % re.search(r"(\w+);", u).group(1), "\n".join(found))]
+    (target / "src").mkdir(parents=True)
+    (target / "src" / "lib.rt").write_text("// Types alone.\n" + "".join(named) + "\n" + "\n\n".join(found) + "\n")
+    if (source / "specs").exists():
+        shutil.copytree(source / "specs", target / "specs")
+    if laws:
+        (target / "proofs").mkdir()
+        (target / "proofs" / "Lib.antt").write_text("".join(f"pub mod {law}\n" for law in sorted(laws)))
+        for law in laws:
+            shutil.copy(source / "proofs" / (law + ".antt"), target / "proofs")
+
+
+def needed_laws():
+    """The files of proofs/ that demand 3 stands on, by crate: a law that it does not cite would refuse for its own sake."""
+    laws, todo = {}, [("meaning", "Builders")]
+    while todo:
+        crate, law = todo.pop()
+        if law in laws.setdefault(crate, set()):
+            continue
+        laws[crate].add(law)
+        text = (ROOT / "crates" / crate / "proofs" / (law + ".antt")).read_text()
+        todo += re.findall(r"^use Rattle·(\w+)(?:·proofs\.proofs|\.proofs)\.([A-Z]\w*)", text, re.M)
+    return laws
+
+
+def copy(room):
+    lines, laws = [], needed_laws()
+    needed = ["bits", "word", "range", "evaluate", "graph", "fold", "bitfield", "plan", "plan_slice", "plan_binary", "build", "retain", "native", "meaning"]
+    for line in (ROOT / "crates.txt").read_text().splitlines():
+        name = line.partition(":")[0]
+        if name in needed:
+            lines.append(line)
+            without_code(ROOT / "crates" / name, room / "crates" / name, laws.get(name))
+    (room / "crates.txt").write_text("\n".join(lines) + "\n")
+
+
+def check(room):
+    """None if all is proved, else the declarations that were refused, but for those that only cite one of them."""
+    ran = subprocess.run(["rt", "check"], cwd=room, capture_output=True, text=True, env={**os.environ, "RT_CUT": "0"})
+    if ran.returncode == 0:
+        return None
+    found = re.findall(r"crates/([^\s:]+):\d+:\d+: error: `([^`]+)`: (?!`[^`]+` was not admitted)", ran.stdout)
+    return list(dict.fromkeys(found)) or [("?", ran.stdout[-300:].replace("\n", " "))]
+
+
+def main():
+    room = pathlib.Path(tempfile.mkdtemp())
+    copy(room)
+    if (first := check(room)) is not None:
+        sys.exit(f"the copy itself is not proved: {first}")
+    print("# Wrong folds, refused for what they mean\n")
+    print("Made by `python3 tests/wrong_folds/run.py`: in a copy of the crates without their code, where no contract can refuse a definition,")
+    print("each wrong definition is put in alone. The declarations that the prover refuses are named, but for those that only cite one of them: where the proof no longer closes.\n")
+    print("| wrong | definition in | refused |\n|---|---|---|")
+    left = 0
+    for what, crate, file, old, new in WRONG:
+        path = room / "crates" / crate / "specs" / (file + ".antt")
+        text = path.read_text()
+        if text.count(old) != 1:
+            sys.exit(f"{what}: the old text stands {text.count(old)} times in {path}")
+        path.write_text(text.replace(old, new))
+        refused = check(room)
+        path.write_text(text)
+        left += refused is None
+        where = ", ".join(f"`{name}` ({file})" for file, name in refused) if refused else "**not refused**"
+        print(f"| {what} | `{crate}/specs/{file}.antt` | {where} |", flush=True)
+    shutil.rmtree(room)
+    sys.exit(1 if left else 0)
+
+
+main()
