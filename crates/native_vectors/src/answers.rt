@@ -52,6 +52,10 @@ fn put_reply(reply: Reply, out: &mut [u8]) -> usize
             let at = put_text_in_room(b"refused ", out, 0);
             put_decimal(number, out, at)
         }
+        Reply::Kept(nodes) => {
+            let at = put_text_in_room(b"kept ", out, 0);
+            put_decimal(nodes, out, at)
+        }
         Reply::Yes => put_text_in_room(b"yes", out, 0),
         Reply::No => put_text_in_room(b"no", out, 0),
     }

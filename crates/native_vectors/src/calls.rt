@@ -1,8 +1,10 @@
-// The calls by their kinds: 1 to 8 are document 01's records, 11 to 13 literal, resolve and is_graph, and from 16 on the words are handled.
+// The calls by their kinds: 1 to 8 and 10 are document 01's records, 11 to 13 literal, resolve and is_graph, and from 16 on the words are handled.
 use crate::lines::Fields;
 use crate::region::peek;
 use crate::region::poke;
 use crate::region::zero;
+use crate::retains::MaybeReply;
+use crate::retains::retained;
 use evaluate::Evaluated;
 use graph::EffectId;
 use graph::InputId;
@@ -31,6 +33,7 @@ pub(crate) enum Reply {
     Value(Word),
     None,
     Refused(u64),
+    Kept(u64),
     Yes,
     No,
 }
@@ -138,6 +141,14 @@ fn parted(g: &mut [u64], call: Fields) -> Outcome {
     Outcome::Answered(reply)
 }
 
+fn kept(words: &mut [u64], call: Fields) -> Outcome {
+    let answer = retained(words, call);
+    match answer {
+        MaybeReply::Some(reply) => Outcome::Answered(reply),
+        MaybeReply::None => Outcome::Malformed,
+    }
+}
+
 // The calls that read.
 fn looked(g: &[u64], kind: u64, id: u64) -> Outcome {
     let reply = match kind {
@@ -196,6 +207,7 @@ pub(crate) fn perform(words: &mut [u64], call: Fields) -> Outcome {
         1..=3 => declared(&mut words[0..len], call),
         4..=5 => operated(&mut words[0..len], call),
         6..=8 => parted(&mut words[0..len], call),
+        10 => kept(words, call),
         11..=13 => looked(&words[0..len], kind, call.number),
         _ => handled(words, call),
     }

@@ -4,13 +4,14 @@ mod answers;
 mod calls;
 mod lines;
 mod region;
+mod retains;
 
 use answers::put_answer_to;
 use libc::STDIN_FILENO;
 use libc::STDOUT_FILENO;
 
 // Replays a line, and answers whether there may be more. A line has 102 bytes, and an answer at most 72.
-fn replay_line(words: &mut [u64; 6146]) -> bool {
+fn replay_line(words: &mut [u64; 6402]) -> bool {
     let mut line = [0u8; 102];
     let mut out = [0u8; 72];
     let n = io::read_full(STDIN_FILENO, &mut line);
@@ -24,10 +25,10 @@ fn replay_line(words: &mut [u64; 6146]) -> bool {
     io::write_all(STDOUT_FILENO, &out[0..len])
 }
 
-// The words are the region's 6,145 and one past its end.
+// The words are the region's 6,145, one past its end, and 256 for the mapping of a retain.
 // A proved loop has to end: it counts its turns down, from a number that no run uses up.
 fn main() {
-    let mut words = [0u64; 6146];
+    let mut words = [0u64; 6402];
     let mut turns = u64::MAX;
     while turns > 0 && replay_line(&mut words) {
         turns -= 1;

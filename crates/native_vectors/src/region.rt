@@ -28,6 +28,14 @@ pub(crate) fn poke(words: &mut [u64], at: u64, a: Word, b: Word) -> bool {
     true
 }
 
+// Sets one word, if there is one at `at`.
+pub(crate) fn put(words: &mut [u64], at: u64, word: u64) {
+    let len = words.len() as u64;
+    if at < len {
+        words[at as usize] = word;
+    }
+}
+
 // The word at `at`, or 0 past the end.
 pub(crate) fn peek(words: &[u64], at: u64) -> u64 {
     let len = words.len() as u64;

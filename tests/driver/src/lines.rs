@@ -2,8 +2,11 @@
 use crate::call::{Answer, Call, TypeCode};
 use crate::words::joined;
 
-// The words that the program holds: the region and one word past its end.
-pub const HELD: usize = 6146;
+// The words that the program holds: the region, one word past its end, and the mapping of a retain.
+pub const HELD: usize = MAPPING + LISTED;
+pub const MAPPING: usize = 6146;
+// The most elements of a keep list or a mapping in a line.
+const LISTED: usize = 256;
 
 // The kinds of lines by their numbers.
 #[derive(Clone, Copy)]
@@ -16,6 +19,7 @@ enum Kind {
     Slice = 6,
     Concat = 7,
     UnsignedRange = 8,
+    Retain = 10,
     Literal = 11,
     Resolve = 12,
     IsGraph = 13,
@@ -130,6 +134,31 @@ pub fn call_line(call: &Call, len: usize) -> String {
     line.expect("every call has a line").text()
 }
 
+// A retain, if a line can say it: at most one element is neither 0 nor 1.
+pub fn retain_line(len: usize, keep: &[u8], mapping: usize) -> Option<String> {
+    if keep.len().max(mapping) > LISTED {
+        return None;
+    }
+    let mut bits = [0u128; 2];
+    let mut special = None;
+    for (place, element) in keep.iter().enumerate() {
+        match element {
+            0 => {}
+            1 => bits[place / 128] |= 1 << (place % 128),
+            _ if special.is_none() => special = Some((place, *element)),
+            _ => return None,
+        }
+    }
+    let (place, element) = special.unwrap_or((0, 0));
+    let number = keep.len() as u64 | (place as u64) << 16;
+    let line = Line::new(Kind::Retain, len, number);
+    let ty = TypeCode {
+        code: 0,
+        width: mapping as u64,
+    };
+    Some(line.of(ty, element).with(bits[0], bits[1]).text())
+}
+
 // Can a line say it? A line has no place for codes that name nothing, and widths and offsets of 16 bits.
 pub fn has_line(call: &Call) -> bool {
     let is_short = |number: &u64| *number < 1 << 16;
@@ -148,7 +177,7 @@ fn reset_line() -> String {
 }
 
 // Sets four words.
-fn poke_line(at: usize, words: &[u64]) -> String {
+pub fn poke_line(at: usize, words: &[u64]) -> String {
     let [a, b] = [0, 2].map(|i| joined(words[at + i], words[at + i + 1]));
     Line::new(Kind::Poke, 0, at as u64).with(a, b).text()
 }

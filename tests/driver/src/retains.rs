@@ -9,8 +9,8 @@ use crate::words::{MARK, encode, graph_of, operands};
 // The keep list, and the number of words lent for the mapping.
 #[derive(Clone, Debug)]
 pub struct Retain {
-    keep: Vec<u8>,
-    mapping: usize,
+    pub keep: Vec<u8>,
+    pub mapping: usize,
     kind: &'static str,
 }
 
@@ -22,6 +22,10 @@ impl Retain {
             mapping,
             kind,
         }
+    }
+
+    pub fn is_refused(&self) -> bool {
+        self.kind.starts_with("refused")
     }
 }
 

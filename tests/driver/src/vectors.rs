@@ -3,17 +3,22 @@
 use crate::call::{Answer, Call, Side};
 use crate::edges::{self, Step};
 use crate::generate::{Source, Spread};
-use crate::lines::{DONE, HELD, answer_line, call_line, peek_line, place_lines, words_line};
+use crate::lines::{
+    DONE, HELD, MAPPING, answer_line, call_line, peek_line, place_lines, poke_line, retain_line,
+    words_line,
+};
 use crate::meter::{self, Kind};
 use crate::native::ScalarType;
 use crate::original::Original;
+use crate::retains::Retain;
 use crate::sites::{Reach, sites};
-use crate::words::{LIMIT, REGION, readable};
+use crate::words::{LIMIT, MARK, REGION, readable};
 use std::fs;
 
 const SEED: u64 = 0x5ca1_ab1e_0004_0002;
-const LISTS: usize = 60;
+const LISTS: usize = 56;
 const CALLS: usize = 120;
+const CALLS_AFTER_RETAIN: usize = 12;
 const REGIONS: usize = 60;
 const CALLS_ON_REGION: usize = 24;
 const DAMAGES: usize = 4;
@@ -27,6 +32,7 @@ struct Vectors {
     held: Vec<u64>,
     source: Source,
     calls: usize,
+    retains: usize,
 }
 
 impl Vectors {
@@ -45,6 +51,41 @@ impl Vectors {
         self.calls += 1;
         meter::count_as(Kind::Fixed);
         answer
+    }
+
+    // Whether the retain was made: a line has no place for a long list.
+    fn retain(&mut self, len: usize, retain: &Retain) -> bool {
+        let Some(line) = retain_line(len, &retain.keep, retain.mapping) else {
+            return false;
+        };
+        self.input += &line;
+        let (region, past) = self.held.split_at_mut(MAPPING);
+        let mapping = &mut past[..retain.mapping];
+        let answer = Original
+            .retain(&mut region[..len], &retain.keep, mapping)
+            .expect("the original retains");
+        self.output += &answer_line(answer, &self.held);
+        self.retains += 1;
+        true
+    }
+
+    // Retains that are refused, with a mapping that is not zeros, one that is not, and calls on what it leaves.
+    fn retains(&mut self) {
+        let scalars = readable(&self.held[..REGION]);
+        self.held[MAPPING..][..4].fill(MARK);
+        self.input += &poke_line(MAPPING, &self.held);
+        self.output += DONE;
+        for retain in self.source.retains(&scalars) {
+            if retain.is_refused() {
+                self.retain(REGION, &retain);
+            }
+        }
+        let last = self.source.retain(&scalars);
+        if self.retain(REGION, &last) {
+            let region = self.held[..REGION].to_vec();
+            self.source.look_at(&region);
+            self.random_calls(CALLS_AFTER_RETAIN);
+        }
     }
 
     fn look(&mut self, at: usize) {
@@ -77,6 +118,7 @@ impl Vectors {
         self.place(&[0; REGION]);
         self.source.start();
         self.random_calls(CALLS);
+        self.retains();
     }
 
     // A grown graph, filled up to a little room.
@@ -95,6 +137,7 @@ impl Vectors {
         self.source.look_at(&region);
         self.place(&region);
         self.random_calls(CALLS_ON_REGION);
+        self.retains();
         let region = self.held[..REGION].to_vec();
         for _ in 0..DAMAGES {
             let mut damaged = region.clone();
@@ -166,6 +209,7 @@ pub fn write(folder: &str) {
         held: vec![0; HELD],
         source: Source::new(SEED, false),
         calls: 0,
+        retains: 0,
     };
     vectors.edges();
     for _ in 0..LISTS {
@@ -182,7 +226,8 @@ pub fn write(folder: &str) {
     fs::write(format!("{folder}/stdout"), &vectors.output).expect("write stdout");
     let (calls, lines) = (vectors.calls, vectors.input.lines().count());
     println!(
-        "{calls} calls in {lines} lines, seed {SEED:#x}; {} of them for rare sites",
+        "{calls} calls and {} retains in {lines} lines, seed {SEED:#x}; {} of the calls for rare sites",
+        vectors.retains,
         calls - random
     );
 }
