@@ -35,7 +35,7 @@ use Rattle.build.specs.Build.{binary}
 use Rattle.build.specs.Rest.{restPlan}
 use Rattle.meaning.specs.Value.{Env, size, ofType, andThen, binaryMeans, value}
 use Rattle.meaning.proofs.Values.{typed-is, typed-of}
-use Rattle.meaning.proofs.Invariant.{storedTyped, Inv, inv-valid, ext-here, ext-type, ext-value, Storable, Kept}
+use Rattle.meaning.proofs.Invariant.{storedTyped, Inv, inv-width, inv-valid, ext-here, ext-type, ext-value, Storable, Kept}
 use Rattle.meaning.proofs.Compared.{mask-value}
 use Rattle.meaning.proofs.Answers.{by-test, by-given, each-provided, each-given, each-or, of-any}
 use Rattle.meaning.proofs.Constants.{reduced-same, stored-low, stored-high}
@@ -188,7 +188,7 @@ module _ {ρ : Env} {g : List ℕ} (i : Inv ρ g) (o : Binary) (l r : ℕ) (k : 
       let f = mask-facts g o l r (k .1) (k .2) m e in
       let s : m ≡ record { type = ty.Bits (f .width); base = m .base; mask = m .mask; result = ty.Bool; op = o; literal = m .literal }
       = (λ j. record { type = f .type j; base = m .base; mask = m .mask; result = f .result j; op = f .op j; literal = m .literal }) in
-      let wide : f .width ≤ 128 = subst (λ (t : ScalarType). typeWidth t ≤ 128) (f .typed) (i .width (m .base) (f .here)) in
+      let wide : f .width ≤ 128 = subst (λ (t : ScalarType). typeWidth t ≤ 128) (f .typed) (inv-width i (m .base) (f .here)) in
       subst (Masking ρ g ty.Bool (binaryMeans ty.Bool o (value ρ g l) (value ρ g r))) (sym s) (
         bits-number wide (m .mask),
         bits-number wide (m .literal),

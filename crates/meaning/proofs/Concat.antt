@@ -39,7 +39,7 @@ use Rattle.meaning.specs.Value.{Env, valued, andThen, binaryMeans, slice
 use Rattle.meaning.proofs.Values.{typed-is, then-is, means-small}
 use Rattle.meaning.proofs.Compared.{mask-value}
 use Rattle.meaning.proofs.Answers.{given-is, by-test, by-given}
-use Rattle.meaning.proofs.Invariant.{Inv, ext-here, ext-type, ext-value, Storable, Kept}
+use Rattle.meaning.proofs.Invariant.{Inv, inv-below, ext-here, ext-type, ext-value, Storable, Kept}
 use Rattle.meaning.proofs.Tree.{Callable}
 use Rattle.meaning.proofs.Constants.{stored-low, stored-high, low-valued}
 use Rattle.meaning.proofs.Plans.{Claim, FirstClaim, bits-number}
@@ -151,7 +151,7 @@ module _ {ρ : Env} {g : List ℕ} (inv : Inv ρ g) where
   step-here : (n i : ℕ) → n < countOf g → StepHere g (bitStep g n i)
   unfolding bitStep
   step-here n i l =
-      by-test (StepHere g) (one (leb 128 i) (above (typeAt g n) i)) (λ e. tt) (λ e. op-here g n i l (operationAt g n) (inv .below n l))
+      by-test (StepHere g) (one (leb 128 i) (above (typeAt g n) i)) (λ e. tt) (λ e. op-here g n i l (operationAt g n) (inv-below inv n l))
 
   turned-here : (o : Option Bit) (b : Bit) → turned o ≡ some b → Here g b
   turned-here none b e = absurd (none-some e)

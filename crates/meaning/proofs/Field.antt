@@ -37,7 +37,7 @@ use Rattle.bits.proofs.Logic.{field-kept, kept-field}
 use Rattle.meaning.specs.Value.{Env, size, ofType, valued, andThen, binaryMeans, operationMeans, value}
 use Rattle.meaning.proofs.Answers.{binary-is, by-test, by-given, given-is}
 use Rattle.meaning.proofs.Values.{typed-is, typed-of, then-is}
-use Rattle.meaning.proofs.Invariant.{storedTyped, Typed, Inv, inv-step}
+use Rattle.meaning.proofs.Invariant.{storedTyped, Typed, Inv, inv-below, inv-width, inv-step}
 use Rattle.meaning.proofs.Constants.{reduced-same}
 use Rattle.meaning.proofs.Views.{same-type, value-small}
 
@@ -91,7 +91,7 @@ module _ (ρ : Env) (g : List ℕ) (inv : Inv ρ g) where
   means-at n l v ev o e = sym (inv-step inv n l ∙ ap (λ (p : Op). operationMeans ρ (typeAt g n) p (value ρ g)) e) ∙ ev
 
   pub below-at : (n : ℕ) → n < countOf g → (o : Op) → operationAt g n ≡ o → start o ≤ n
-  below-at n l o e = subst (λ (p : Op). start p ≤ n) e (inv .below n l)
+  below-at n l o e = subst (λ (p : Op). start p ≤ n) e (inv-below inv n l)
 
   pub typed-at : (n : ℕ) → n < countOf g → (o : Op) → operationAt g n ≡ o → Typed g (typeAt g n) o
   typed-at n l o e = subst (λ (p : Op). Typed g (typeAt g n) p) e (inv .typed n l)
@@ -299,7 +299,7 @@ module _ (ρ : Env) (g : List ℕ) (inv : Inv ρ g) where
   step-says n i v l ev = go (leb 128 i) refl (above (typeAt g n) i) refl
     where
       go : (x : Bool) → leb 128 i ≡ x → (y : Bool) → above (typeAt g n) i ≡ y → StepSays ρ g v i (cond (one x y) (here (known false)) (bitOf g n i (operationAt g n)))
-      go true p y q = past-zero (typeAt g n) v i (inv .width n l) (value-small inv n l v ev) (leb-true 128 i p)
+      go true p y q = past-zero (typeAt g n) v i (inv-width inv n l) (value-small inv n l v ev) (leb-true 128 i p)
       go false p true q = above-zero (typeAt g n) v i (value-small inv n l v ev) q
       go false p false q = op-says ρ g inv n i v l ev q (operationAt g n) refl
 
@@ -807,7 +807,7 @@ module _ (ρ : Env) (g : List ℕ) (inv : Inv ρ g) (o : Binary) where
         let s =
         update-says ρ g inv updated w x y lu tu ey c (binary-is (c .op) bi.And (p .0)) (ap (value ρ g) same ∙ ex) u eu ec in
         let lx : x < 2 ^ w = subst (λ (h : ScalarType). x < size h) tb (value-small inv base lb x ex) in
-        let lw : w ≤ 128 = subst (λ (h : ScalarType). typeWidth h ≤ 128) tb (inv .width base lb) in
+        let lw : w ≤ 128 = subst (λ (h : ScalarType). typeWidth h ≤ 128) tb (inv-width inv base lb) in
         let m : bitAnd (u128.not (c .value)) (mask w) ≡ 2 ^ w - 1 - c .value = mask-is w (c .value) lw (s .keep) in
         record {
           width = w;

@@ -1,6 +1,6 @@
 -- What holds of a grown graph where the values meet the conditions, and that an insertion keeps it. Assumes nothing.
 use mathlib.Core.Path.{_≡_, refl, sym, ap, _∙_, subst}
-use mathlib.Core.Bool.{Bool, true, false}
+use mathlib.Core.Bool.{Bool, true, false, cond}
 use mathlib.Core.List.{List}
 use mathlib.Core.Logic.{_⊎_, inl, inr, ⊎-elim}
 use mathlib.Core.Option.{Option, none, some}
@@ -8,9 +8,8 @@ use Prim.Native.Nat.{ℕ, zero, suc, min, _+_, _-_, _^_, _≤_, _<_}
 use native.Mathlib.Decide.{decLt}
 use native.Mathlib.Nat.{le-refl}
 use native.Mathlib.Omega.{arith}
-use borrow.Author.Tests.{ltb-true, eq-eqb}
-use lib.Dec.{ltb, eqb}
-use lib.ListN.{length}
+use borrow.Author.Tests.{ltb-true, leb-true, eq-eqb}
+use lib.Dec.{ltb, leb, eqb, lit≤}
 use lib.Signed.{mag}
 use Rattle.range.specs.Interval.{Interval, _∈_, both}
 use Rattle.range.specs.declared.ScalarType.{ScalarType}
@@ -19,21 +18,21 @@ use Rattle.range.proofs.Valid.{Valid}
 use Rattle.evaluate.specs.Operator.{typeWidth}
 use Rattle.evaluate.specs.declared.Binary.{Binary}
 use Rattle.evaluate.specs.declared.Binary.the-variants as bi
-use Rattle.graph.specs.Layout.{REGION, LIMIT, countOf}
+use Rattle.graph.specs.Layout.{LIMIT, wordAt, countOf}
 use Rattle.graph.specs.Node as node
-use Rattle.graph.specs.Node.{Op, Parts, nodeAt, typeAt, rangeAt, operationAt, aliasAt, opZ, wordsOf}
-use Rattle.graph.specs.WellFormed.{isGraph}
+use Rattle.graph.specs.Node.{Op, Parts, narrow, typeOf, nodeAt, typeAt, rangeAt, operationAt, aliasAt, opZ, wordsOf}
+use Rattle.graph.specs.WellFormed.{isType, isGraph}
 use Rattle.graph.specs.Insert as insert
 use Rattle.graph.specs.Insert.{Reply, Made, start, follow, resolve, sameKey, interned, appended, foundOr, inserted}
 use Rattle.graph.proofs.Codes.{Stored, opOffset}
-use Rattle.graph.proofs.Grown.{graph-facts}
+use Rattle.graph.proofs.Appended.{Exact, Keys, exact-new, exact-old, keys-grown, graph-grown, range-valid}
+use Rattle.graph.proofs.Grown.{Graph, graph-facts, node-facts, start-le}
 use Rattle.graph.proofs.Interned.{same-key, lowest-some}
-use Rattle.graph.proofs.Nodes.{Holds, type-read, operation-read, length-words, appended-made, appended-full, appended-length, appended-count, appended-other, appended-new, node-other}
+use Rattle.graph.proofs.Nodes.{Holds, type-read, operation-read, length-words, appended-made, appended-full, appended-count, appended-other, appended-new, node-other}
 use Rattle.fold.specs.Shape.{sameType, narrowType}
 use Rattle.native.specs.Typing.{isNumber, unaryTyped, binaryTyped, concatTyped}
 use Rattle.meaning.specs.Value.{Env, size, integerOf, operationMeans, value}
 use Rattle.meaning.proofs.Values.{value-same, value-step, means-same}
-use Rattle.graph.proofs.Appended.{Exact, Keys, exact-new, exact-old, keys-grown, graph-grown, range-valid}
 
 -- ---- types of stored operations
 
@@ -107,25 +106,50 @@ Refined ρ g t (node.unary u i) = Unit {0}
 Refined ρ g t (node.binary b i j) = Unit {0}
 
 pub record Inv (ρ : Env) (g : List ℕ) : Type 0 where
+  -- question 1
   pub graph : isGraph g ≡ true
-  pub size : length g ≡ REGION
-  pub few : countOf g ≤ LIMIT
+  -- a node's key words are those of what it reads
   pub exact : (n : ℕ) → n < countOf g → Exact g n
+  -- no two nodes have one type, range and operation
   pub keys : Keys g
-  pub below : (n : ℕ) → n < countOf g → start (operationAt g n) ≤ n
-  pub width : (n : ℕ) → n < countOf g → typeWidth (typeAt g n) ≤ 128
+  -- the typing table as stored nodes keep it
   pub typed : (n : ℕ) → n < countOf g → Typed g (typeAt g n) (operationAt g n)
+  -- a Refine's source has a value of the Refine's type, if any
   pub refined : (n : ℕ) → n < countOf g → Refined ρ g (typeAt g n) (operationAt g n)
+  -- the ends of ranges are integers of 128 bits
   pub ends : (n : ℕ) → n < countOf g → (a : Interval) → rangeAt g n ≡ some a → Ends a
+  -- every defined value lies in its node's range
   pub ranged : (n : ℕ) → n < countOf g → (v : ℕ) → value ρ g n ≡ some v → Within (typeAt g n) v (rangeAt g n)
+  -- an alias leads to a node of the same type and value
   pub alias : (n : ℕ) → n < countOf g → (aliasAt g n ≡ 0) ⊎ Leads ρ g n (aliasAt g n - 1)
 
+-- a width that question 1 allows
+type-small : (code width : ℕ) → isType code width ≡ true → typeWidth (typeOf code width) ≤ 128
+type-small code width = by (eqb code 0) (eqb code 1)
+  where
+    by : (s t : Bool) → cond s (eqb width 0) (cond t (leb width 128) (cond (eqb code 2) (eqb width 0) false)) ≡ true
+        → typeWidth (cond s ty.Bool (cond t (ty.Bits (narrow width)) ty.Integer)) ≤ 128
+    by true t e = lit≤ tt
+    by false true e = let l = leb-true width 128 e in omega arith
+    by false false e = lit≤ tt
+
+module _ {ρ : Env} {g : List ℕ} (i : Inv ρ g) where
+  -- what question 1 says
+  pub inv-graph : Graph g
+  inv-graph = graph-facts g (i .graph)
+
+  pub inv-below : (n : ℕ) → n < countOf g → start (operationAt g n) ≤ n
+  inv-below n l = start-le inv-graph n l
+
+  pub inv-width : (n : ℕ) → n < countOf g → typeWidth (typeAt g n) ≤ 128
+  inv-width n l = type-small (wordAt g n 0) (wordAt g n 1) (node-facts g (countOf g) n (inv-graph .node n l) .type)
+
 pub inv-step : {ρ : Env} {g : List ℕ} → Inv ρ g → (n : ℕ) → n < countOf g → value ρ g n ≡ operationMeans ρ (typeAt g n) (operationAt g n) (value ρ g)
-inv-step {ρ} {g} i n l = value-step ρ g n (i .below n l)
+inv-step {ρ} {g} i n l = value-step ρ g n (inv-below i n l)
 
 -- its range, if it has one, passes question 1
 pub inv-valid : {ρ : Env} {g : List ℕ} → Inv ρ g → (n : ℕ) → n < countOf g → (a : Interval) → rangeAt g n ≡ some a → Valid (typeAt g n) a
-inv-valid {ρ} {g} i = range-valid (graph-facts g (i .graph))
+inv-valid {ρ} {g} i = range-valid (inv-graph i)
 
 -- ---- one graph goes on from another: its nodes are there, with their types, ranges and operations
 
@@ -260,18 +284,18 @@ module _ (ρ : Env) (g : List ℕ) (t : ScalarType) (r : Option Interval) (o : O
   module _ (room : countOf g < LIMIT) where
     count-grown : countOf grown ≡ countOf g + 1
     unfolding ws grown
-    count-grown = appended-count g (wordsOf t r o) (i .size) (length-words t r o) room
+    count-grown = appended-count g (wordsOf t r o) (inv-graph i .length) (length-words t r o) room
 
     grows : Extends g grown
     unfolding ws grown
     grows = record {
       more = omega (arith, count-grown);
-      same = λ n l. node-other g (wordsOf t r o) (i .size) (length-words t r o) room n (λ e. omega arith);
+      same = λ n l. node-other g (wordsOf t r o) (inv-graph i .length) (length-words t r o) room n (λ e. omega arith);
     }
 
     new : Holds grown (countOf g) t r o 0
     unfolding ws grown
-    new = appended-new g t r o (i .size) room (s .stored)
+    new = appended-new g t r o (inv-graph i .length) room (s .stored)
 
     -- what the new node means
     new-means : value ρ grown (countOf g) ≡ operationMeans ρ t o (value ρ g)
@@ -289,49 +313,38 @@ module _ (ρ : Env) (g : List ℕ) (t : ScalarType) (r : Option Interval) (o : O
 
     old-alias : (n : ℕ) → n < countOf g → aliasAt grown n ≡ aliasAt g n
     unfolding ws grown
-    old-alias n l = appended-other g (wordsOf t r o) (i .size) (length-words t r o) room n (λ e. omega arith) .alias
-
-    grown-size : length grown ≡ REGION
-    unfolding ws grown
-    grown-size = appended-length g (wordsOf t r o) (i .size) (length-words t r o) room
+    old-alias n l = appended-other g (wordsOf t r o) (inv-graph i .length) (length-words t r o) room n (λ e. omega arith) .alias
 
     grown-exact : (n : ℕ) → n < countOf grown → Exact grown n
     unfolding ws grown
     grown-exact =
-        each (Exact grown) (λ n l. exact-old g t r o (i .size) room (s .stored) n (λ e. omega arith) (i .exact n l))
-        (exact-new g t r o (i .size) room (s .stored))
+        each (Exact grown) (λ n l. exact-old g t r o (inv-graph i .length) room (s .stored) n (λ e. omega arith) (i .exact n l))
+        (exact-new g t r o (inv-graph i .length) room (s .stored))
 
     grown-keys : interned g o ws ≡ none → Keys grown
     unfolding ws grown
-    grown-keys e = keys-grown g t r o (i .size) room (s .stored) (i .below) (i .exact) e (i .keys)
+    grown-keys e = keys-grown g t r o (inv-graph i .length) room (s .stored) (inv-below i) (i .exact) e (i .keys)
 
     grown-graph : isGraph grown ≡ true
     unfolding ws grown
-    grown-graph = graph-grown g t r o (graph-facts g (i .graph)) room (s .stored) (s .width) (s .below) (s .offset) (s .parameter) (s .valid)
+    grown-graph = graph-grown g t r o (inv-graph i) room (s .stored) (s .width) (s .below) (s .offset) (s .parameter) (s .valid)
 
     grown-inv : interned g o ws ≡ none → Inv ρ grown
     grown-inv e = record {
       graph = grown-graph;
-      size = grown-size;
-      few = omega (arith, count-grown);
       exact = grown-exact;
       keys = grown-keys e;
-      below =
-          each (λ n. start (operationAt grown n) ≤ n) (λ n l. rw (ext-operation grows n l) (i .below n l))
-          (rw (new .operation) (s .below));
-      width =
-          each (λ n. typeWidth (typeAt grown n) ≤ 128) (λ n l. rw (ext-type grows n l) (i .width n l)) (rw (new .type) (s .width));
       typed =
           each (λ n. Typed grown (typeAt grown n) (operationAt grown n))
           (λ n l.
           rw (ext-type grows n l, ext-operation grows n l)
-          (typed-ext grows (typeAt g n) (operationAt g n) (let b = i .below n l in omega arith) (i .typed n l)))
+          (typed-ext grows (typeAt g n) (operationAt g n) (let b = inv-below i n l in omega arith) (i .typed n l)))
           (rw (new .type, new .operation) (typed-ext grows t o (s .below) (s .typed)));
       refined =
           each (λ n. Refined ρ grown (typeAt grown n) (operationAt grown n))
           (λ n l.
           rw (ext-type grows n l, ext-operation grows n l)
-          (refined-ext ρ grows (typeAt g n) (operationAt g n) (let b = i .below n l in omega arith) (i .refined n l)))
+          (refined-ext ρ grows (typeAt g n) (operationAt g n) (let b = inv-below i n l in omega arith) (i .refined n l)))
           (rw (new .type, new .operation) (refined-ext ρ grows t o (s .below) (s .refined)));
       ends =
           each (λ n. (a : Interval) → rangeAt grown n ≡ some a → Ends a) (λ n l a q. i .ends n l a (sym (ext-range grows n l) ∙ q))

@@ -33,7 +33,7 @@ use Rattle.meaning.specs.Value.{Env, size, ofType, valued, andThen, unar
 use Rattle.meaning.proofs.Constants.{low-valued, pattern}
 use Rattle.meaning.proofs.Answers.{by-test, of-any, by-given}
 use Rattle.meaning.proofs.Values.{typed-is, typed-of, then-is}
-use Rattle.meaning.proofs.Invariant.{storedTyped, Refined, Inv, inv-step, resolve-leads}
+use Rattle.meaning.proofs.Invariant.{storedTyped, Refined, Inv, inv-below, inv-step, resolve-leads}
 use Rattle.meaning.proofs.Plans.{Covers, Claim}
 use Rattle.meaning.proofs.Views.{same-type, value-small, value-pattern, truncate-valued, seen}
 
@@ -182,7 +182,7 @@ module _ {ρ : Env} {g : List ℕ} (i : Inv ρ g) where
       by (node.input j) q r = absurd (none-some r)
       by (node.refine j) q r =
           let s : j ≡ p = some-is r in
-          let b : start (node.refine j) ≤ n = subst (λ (o : Op). start o ≤ n) q (i .below n l) in
+          let b : start (node.refine j) ≤ n = subst (λ (o : Op). start o ≤ n) q (inv-below i n l) in
           (omega arith, own j q ∙ ap (value ρ g) s)
       by (node.effect j) q r = absurd (none-some r)
       by (node.slice j o w) q r = absurd (none-some r)
@@ -224,7 +224,7 @@ module _ {ρ : Env} {g : List ℕ} (i : Inv ρ g) (w : ℕ) (wide : w ≤ 128) w
   module _ (s : ℕ) (l : s < countOf g) (o : Binary) (a b : ℕ) (e : operationAt g s ≡ node.binary o a b) (m : isAny modularOps o ≡ true)
       (big : isWide (typeAt g s) w ≡ true) where
     below : start (node.binary o a b) ≤ s
-    below = subst (λ (p : Op). start p ≤ s) e (i .below s l)
+    below = subst (λ (p : Op). start p ≤ s) e (inv-below i s l)
 
     la : a < countOf g
     la = let q = below in omega arith

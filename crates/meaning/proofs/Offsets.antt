@@ -38,7 +38,7 @@ use Rattle.native.specs.Typing.{isNumber, sameTypes, arithmetic}
 use Rattle.meaning.specs.Value.{Env, size, ofType, andThen, binaryMeans, value}
 use Rattle.meaning.proofs.Modular.{Residues, sum, difference, checked, checked-is, alike, in-bits, sub-low}
 use Rattle.meaning.proofs.Answers.{binary-is, of-any, by-test, Each, each-none, each-some, each-provided, each-given, each-or}
-use Rattle.meaning.proofs.Invariant.{storedTyped, Inv}
+use Rattle.meaning.proofs.Invariant.{storedTyped, Inv, inv-width}
 use Rattle.meaning.proofs.Tree.{Callable}
 use Rattle.meaning.proofs.Constants.{pattern, reduced-same}
 use Rattle.meaning.proofs.Plans.{ByConstant, Claim, bits-number}
@@ -341,7 +341,7 @@ module _ {ρ : Env} {g : List ℕ} (i : Inv ρ g) (t : ScalarType) (o : Binary) 
     tr = sym (equality-typed (typeAt g l) (typeAt g r) t o eq (k .3)) ∙ tl
 
     wide : w ≤ 128
-    wide = subst (λ (s : ScalarType). typeWidth s ≤ 128) tl (i .width l (k .1))
+    wide = subst (λ (s : ScalarType). typeWidth s ≤ 128) tl (inv-width i l (k .1))
 
     shifted : (v : ℕ) → Arithmetic (c .op) → (c .value < 2 ^ w → b < 2 ^ w → Shifts (c .op) w (c .value) b v)
         → Claim ρ g t (asked o) (plan.constantBinary (ty.Bits w) v t o (c .base))

@@ -8,7 +8,7 @@ use native.Mathlib.Nat.{mod-lt, le-refl, lt-irrefl}
 use native.Mathlib.Omega.{arith}
 use borrow.Author.Tests.{eqb-true, ltb-true, leb-true, le-leb}
 use lib.Dec.{eqb, ltb, leb, lit<}
-use lib.ListN.{getD, replicate, length-replicate}
+use lib.ListN.{getD, replicate}
 use lib.Pow.{pow-pos}
 use lib.Signed.{leZ}
 use Rattle.word.specs.Value.{signed}
@@ -29,7 +29,6 @@ use Rattle.graph.specs.Node.{Op, typeAt, wordsOf}
 use Rattle.graph.specs.WellFormed.{isGraph}
 use Rattle.graph.specs.Insert as graph
 use Rattle.graph.specs.Insert.{Reply, made, constantInterval, interned, appended, foundOr, inserted}
-use Rattle.graph.proofs.Grown.{graph-facts}
 use Rattle.graph.proofs.Nodes.{appended-made, appended-full}
 use Rattle.fold.specs.Shape.{sameType}
 use Rattle.build.specs.Build as build
@@ -430,10 +429,10 @@ module _ (ρ : Env) (s : State) (i : Inv ρ (s .graph)) (r : AllRight ρ (s .gra
 
   -- ---- retain
 
-  struck-right : (keep mapping : List ℕ) → isGraph (s .graph) ≡ true → isChoice (s .graph) keep mapping ≡ true → (ls : List Line) → AllRight ρ (s .graph) ls
+  struck-right : (keep mapping : List ℕ) → isChoice (s .graph) keep mapping ≡ true → (ls : List Line) → AllRight ρ (s .graph) ls
       → AllRight ρ (retained (s .graph) keep) (struck keep ls)
-  struck-right keep mapping e c [] d = tt
-  struck-right keep mapping e c (l ∷ ls) d = go (isKept keep (l .id)) refl (struck-right keep mapping e c ls (d .1))
+  struck-right keep mapping c [] d = tt
+  struck-right keep mapping c (l ∷ ls) d = go (isKept keep (l .id)) refl (struck-right keep mapping c ls (d .1))
     where
       f : Choice (s .graph) keep mapping
       f = choice-facts (s .graph) keep mapping c
@@ -443,8 +442,8 @@ module _ (ρ : Env) (s : State) (i : Inv ρ (s .graph)) (r : AllRight ρ (s .gra
       go true k ih =
           let n = id-kept keep (l .id) k in (
             record {
-              here = rw n (kept-here ρ i (graph-facts (s .graph) e) f (l .id) (d .0 .here) k);
-              means = λ v q. ap (value ρ (retained (s .graph) keep)) n ∙ retain-value ρ i (graph-facts (s .graph) e) f (l .id) (d .0 .here) k ∙ d .0 .means v q;
+              here = rw n (kept-here ρ i f (l .id) (d .0 .here) k);
+              means = λ v q. ap (value ρ (retained (s .graph) keep)) n ∙ retain-value ρ i f (l .id) (d .0 .here) k ∙ d .0 .means v q;
             },
             ih,
           )
@@ -457,7 +456,7 @@ module _ (ρ : Env) (s : State) (i : Inv ρ (s .graph)) (r : AllRight ρ (s .gra
       (λ e.
       by-test (λ k. Fine ρ (kept k keep (s .book))) (isChoice (s .graph) keep mapping)
       (λ c.
-      (retain-inv ρ i (graph-facts (s .graph) e) (choice-facts (s .graph) keep mapping c), struck-right keep mapping e c (s .book .lines) r))
+      (retain-inv ρ i (choice-facts (s .graph) keep mapping c), struck-right keep mapping c (s .book .lines) r))
       (λ c. (i, r)))
       (λ e. (i, r))
 
@@ -475,7 +474,7 @@ module _ (ρ : Env) (s : State) (i : Inv ρ (s .graph)) (r : AllRight ρ (s .gra
       by-test (λ k. k .outcome ≡ retaining.kept m → Mapped keep n k) (isChoice (s .graph) keep mapping)
       (λ c p. (
         ids-at keep (countOf (s .graph)) n 0 l,
-        λ k. ap (value ρ (retained (s .graph) keep)) (id-kept keep n k) ∙ retain-value ρ i (graph-facts (s .graph) e) (choice-facts (s .graph) keep mapping c) n l k,
+        λ k. ap (value ρ (retained (s .graph) keep)) (id-kept keep n k) ∙ retain-value ρ i (choice-facts (s .graph) keep mapping c) n l k,
       ))
       (λ c p. absurd (not-kept p)))
       (λ e p. absurd (not-kept p)) q
@@ -498,12 +497,8 @@ module _ (ρ : Env) (builds : Sound ρ build.build)
   empty-inv : Inv ρ (replicate REGION 0)
   empty-inv = record {
     graph = empty-graph;
-    size = length-replicate {A = ℕ} REGION 0;
-    few = omega arith;
     exact = λ n l. absurd (omega arith);
     keys = λ n m a b e. absurd (omega arith);
-    below = λ n l. absurd (omega arith);
-    width = λ n l. absurd (omega arith);
     typed = λ n l. absurd (omega arith);
     refined = λ n l. absurd (omega arith);
     ends = λ n l. absurd (omega arith);

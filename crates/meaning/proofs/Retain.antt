@@ -13,7 +13,7 @@ use lib.ListN.{getD}
 use Rattle.word.proofs.Integer.{lt-or-ge}
 use Rattle.range.specs.Interval.{Interval}
 use Rattle.range.specs.declared.ScalarType.{ScalarType}
-use Rattle.evaluate.specs.Operator.{unaryCode, binaryCode, typeWidth}
+use Rattle.evaluate.specs.Operator.{unaryCode, binaryCode}
 use Rattle.graph.specs.Layout.{KEY, wordAt, countOf}
 use Rattle.graph.specs.Node as node
 use Rattle.graph.specs.Node.{Op, Parts, typeAt, rangeAt, operationOf, operationAt, nodeAt, aliasAt, opCode, opX, opY, opZ, wordsOf}
@@ -24,10 +24,10 @@ use Rattle.retain.proofs.Operands.{operator, Choice, first-below, second-below,
 use Rattle.retain.proofs.Laws.{id-kept, kept-mono, kept-less, new-apart, retained-count, retained-word, retained-node}
 use Rattle.retain.proofs.Grown.{Origin, origin-of, retained-graph}
 use Rattle.native.specs.Typing.{unaryTyped, concatTyped}
-use Rattle.meaning.specs.Value.{Env, size, operationMeans, value}
+use Rattle.meaning.specs.Value.{Env, operationMeans, value}
 use Rattle.meaning.proofs.Values.{value-step}
 use Rattle.graph.proofs.Appended.{wordsFor, Exact, Keys, unary-code, binary-code}
-use Rattle.meaning.proofs.Invariant.{storedTyped, Typed, Refined, Ends, Within, Leads, Inv, inv-step}
+use Rattle.meaning.proofs.Invariant.{storedTyped, Typed, Refined, Ends, Within, Leads, Inv, inv-graph, inv-step}
 
 -- ---- an operation with its operands renumbered
 
@@ -193,7 +193,10 @@ origin-is keep c n l e (no h) = absurd (h (kept-less keep n c l e))
 
 -- ---- what is left
 
-module _ (ρ : Env) {g keep mapping : List ℕ} (i : Inv ρ g) (f : Graph g) (d : Choice g keep mapping) where
+module _ (ρ : Env) {g keep mapping : List ℕ} (i : Inv ρ g) (d : Choice g keep mapping) where
+  f : Graph g
+  f = inv-graph i
+
   left : Graph (retained g keep)
   left = graph-facts (retained g keep) (retained-graph f d)
 
@@ -296,12 +299,8 @@ module _ (ρ : Env) {g keep mapping : List ℕ} (i : Inv ρ g) (f : Graph g) (d 
   pub retain-inv : Inv ρ (retained g keep)
   retain-inv = record {
     graph = retained-graph f d;
-    size = left .length;
-    few = left .count;
     exact = each (Exact (retained g keep)) exact-at;
     keys = keys-left;
-    below = λ n l. start-le left n l;
-    width = each (λ j. typeWidth (typeAt (retained g keep) j) ≤ 128) (λ n l e. rw (at n l e .type) (i .width n l));
     typed =
         each (λ j. Typed (retained g keep) (typeAt (retained g keep) j) (operationAt (retained g keep) j))
         (λ n l e.

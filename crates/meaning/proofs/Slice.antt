@@ -38,7 +38,7 @@ use Rattle.bits.proofs.Slices.{slice-slice, slice-high, slice-low, slice-split}
 use Rattle.meaning.specs.Value.{Env, size, valued, andThen, sliceMeans, concatMeans, value}
 use Rattle.meaning.proofs.Values.{typed-is, then-is, means-small}
 use Rattle.meaning.proofs.Answers.{by-test, by-provided, by-given}
-use Rattle.meaning.proofs.Invariant.{Inv, ext-here, ext-value, Kept}
+use Rattle.meaning.proofs.Invariant.{Inv, inv-width, ext-here, ext-value, Kept}
 use Rattle.meaning.proofs.Constants.{valued-same, stored-low, stored-high, low-valued}
 use Rattle.meaning.proofs.Plans.{Covers, Claim, FirstClaim, bits-number}
 use Rattle.meaning.proofs.Views.{same-type, value-small, value-pattern, any-within}
@@ -185,7 +185,7 @@ module _ {ρ : Env} {g : List ℕ} (i : Inv ρ g) (n o w : ℕ) (l : n < countOf
       let f = below-at ρ g i n l (node.concat h j v) e in
       let lh : h < countOf g = omega arith in
       let lj : j < countOf g = omega arith in
-      let u : t .0 ≤ 128 = subst (λ (c : ScalarType). typeWidth c ≤ 128) (t .1) (i .width n l) in
+      let u : t .0 ≤ 128 = subst (λ (c : ScalarType). typeWidth c ≤ 128) (t .1) (inv-width i n l) in
       record {
         high = lh;
         low = lj;

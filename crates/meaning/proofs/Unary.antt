@@ -41,7 +41,7 @@ use Rattle.plan.specs.Plan.{constantOr}
 use Rattle.plan.specs.Single.{isView, addOr, unaryPlan}
 use Rattle.meaning.specs.Value.{Env, size, valued, andThen, unaryMeans, value}
 use Rattle.meaning.proofs.Values.{typed-is, then-is, truth-small}
-use Rattle.meaning.proofs.Invariant.{storedTyped, Ends, Inv, inv-valid, Storable}
+use Rattle.meaning.proofs.Invariant.{storedTyped, Ends, Inv, inv-width, inv-valid, Storable}
 use Rattle.meaning.proofs.Answers.{both-given, by-test, Each, each-none, each-some, each-provided, each-mapped, each-else}
 use Rattle.meaning.proofs.Constants.{stored-low, stored-high}
 use Rattle.meaning.proofs.Plans.{Covers, Claim}
@@ -489,7 +489,7 @@ module _ {ρ : Env} {g : List ℕ} (i : Inv ρ g) (n : ℕ) (l : n < countOf g) 
       go none q = tt
       go (some u) q = (
         refl,
-        record { width = wide; small = unary-small o (typeAt g n) t c u typed (i .width n l) wide (value-small i n l c same) q },
+        record { width = wide; small = unary-small o (typeAt g n) t c u typed (inv-width i n l) wide (value-small i n l c same) q },
         λ v f.
             let m : valued t u ≡ some v = rw (same, q) at f in
             ap some (sym (typed-is t (reduced t u) v m .0)),

@@ -33,7 +33,7 @@ use Rattle.plan.specs.Plan as plan
 use Rattle.plan.specs.Single.{viewPlan, identityPlan}
 use Rattle.meaning.specs.Value.{Env, size, integerOf, ofType, valued, andThen, unaryMeans, value}
 use Rattle.meaning.proofs.Values.{typed-is, typed-of, then-is, means-small}
-use Rattle.meaning.proofs.Invariant.{Ends, Inv, inv-step, inv-valid, Storable}
+use Rattle.meaning.proofs.Invariant.{Ends, Inv, inv-width, inv-step, inv-valid, Storable}
 use Rattle.meaning.proofs.Constants.{pattern, valued-same, signed-parts, stored-low, stored-high}
 use Rattle.meaning.proofs.Answers.{by-test}
 use Rattle.meaning.proofs.Plans.{Covers, Claim}
@@ -66,7 +66,7 @@ module _ {ρ : Env} {g : List ℕ} (i : Inv ρ g) (n : ℕ) (l : n < countOf g) 
   value-small = means-small ρ (typeAt g n) (operationAt g n) (value ρ g) v (sym (inv-step i n l) ∙ e)
 
   pub value-pattern : v < 2 ^ 128
-  value-pattern = pattern (typeAt g n) v (i .width n l) value-small
+  value-pattern = pattern (typeAt g n) v (inv-width i n l) value-small
 
 -- ---- values in ranges that are not negative
 
