@@ -1,10 +1,10 @@
 #!/usr/bin/env python3
-"""Shows that a wrong fold is refused for its meaning, and not only because code and definition differ.
+"""Shows that a wrong definition stops the proof of demand 3, and not only the proof that the code does the same.
 
     python3 tests/wrong_folds/run.py > docs/WRONG_FOLDS.md
 
 The crates under `meaning` are copied without their code: types, definitions and the laws that demand 3 stands on stay. In this copy no contract is left
-that could refuse a definition, and each wrong definition below, if it is refused, is refused by a law about what nodes mean.
+that could refuse a definition, and each wrong definition below, if it is refused, is refused by a law that demand 3 stands on.
 """
 import os
 import pathlib
@@ -136,9 +136,9 @@ def main():
     copy(room)
     if (first := check(room)) is not None:
         sys.exit(f"the copy itself is not proved: {first}")
-    print("# Wrong folds, refused for what they mean\n")
+    print("# Wrong definitions, where the proof of demand 3 stops\n")
     print("Made by `python3 tests/wrong_folds/run.py`: in a copy of the crates without their code, where no contract can refuse a definition,")
-    print("each wrong definition is put in alone. The declarations that the prover refuses are named, but for those that only cite one of them: where the proof no longer closes.\n")
+    print("each wrong definition is put in alone. The declarations that the prover refuses are named, but for those that only cite one of them: where the proof stops. It is no counterexample.\n")
     print("| wrong | definition in | refused |\n|---|---|---|")
     left = 0
     for what, crate, file, old, new in WRONG:
