@@ -28,11 +28,16 @@ pub mod opened {
         graph
     }
 
-    // Takes back the nodes past these. Builders change nothing else, and each has a key of its own.
-    pub fn put_back(graph: &mut Graph, count: usize) {
+    // Takes back the nodes past these, each with a key of its own, and the aliases of those that had none. Calls
+    // change nothing else.
+    pub fn put_back(graph: &mut Graph, count: usize, aliased: &[ScalarId]) {
+        let count = count.min(graph.scalars.len());
         for scalar in graph.scalars.drain(count..) {
             let key = (scalar.ty, scalar.range, scalar.operation);
             graph.interned.remove(&key);
+        }
+        for id in aliased {
+            graph.aliases.remove(id);
         }
     }
 
@@ -46,7 +51,8 @@ pub mod opened {
 }
 ";
 
-// The first lines of the six functions that cost a unit, and the line where a node is stored.
+// The first lines of the six functions that cost a unit, the line where a node is stored, and the one where an alias
+// is set.
 const ENTRIES: [(&str, usize, &str); 6] = [
     ("native.rs", 248, "if self.scalars[value].ty == ty {"),
     ("native.rs", 273, "let value = self.resolve(value);"),
@@ -56,6 +62,7 @@ const ENTRIES: [(&str, usize, &str); 6] = [
     ("modular.rs", 7, "let ty = ScalarType::Bits(width);"),
 ];
 const STORE: (&str, usize, &str) = ("native.rs", 206, "self.scalars.push(Scalar {");
+const ALIAS: (&str, usize, &str) = ("assume.rs", 39, "self.aliases.insert(id, next);");
 
 // The line after a call of the meter.
 fn metered((file, line, text): (&'static str, usize, &str), call: &str) -> Change {
@@ -70,6 +77,7 @@ fn metered((file, line, text): (&'static str, usize, &str), call: &str) -> Chang
 fn limits() -> Vec<Change> {
     let mut changes: Vec<Change> = ENTRIES.map(|entry| metered(entry, "enter()")).into();
     changes.push(metered(STORE, "store(self.scalars.len())"));
+    changes.push(metered(ALIAS, "alias(id)"));
     changes
 }
 
@@ -82,13 +90,22 @@ fn counted((number, site): (usize, Site)) -> Change {
         Form::Pass(_) => format!("{meter}pass({number}, {text})"),
         Form::None(_) => format!("{meter}none({number}, {text})"),
         Form::When(_) => format!("{meter}when({number}, {text})"),
+        Form::Unless(_) => format!("{meter}unless({number}, {text})"),
+        Form::Arm(_) => format!("=> {{ {meter}hit({number}); {text} }}"),
+        Form::Unlike(_, pattern, place) => {
+            format!("{meter}unless({number}, matches!({place}, {pattern})); {text}")
+        }
         Form::Empty => format!("{{ {meter}hit({number}) }}"),
         Form::Expected(_) => format!(".or_else(|| {meter}none({number}, None)){text}"),
+    };
+    let from = match site.form {
+        Form::Arm(_) => format!("=> {text}"),
+        _ => text.to_string(),
     };
     Change {
         file: site.file,
         line: site.line,
-        from: text.to_string(),
+        from,
         to,
     }
 }

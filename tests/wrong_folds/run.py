@@ -69,15 +69,49 @@ WRONG = [
     ("an operand that is not renumbered by retain", "retain", "Retain",
      "hasSecond code = one (eqb code 5)", "hasSecond code = both (eqb code 5)"),
     ("a retained line that keeps its old id", "meaning", "Book",
-     "(record { id = newId keep (l .id); val = l .val }", "(record { id = l .id; val = l .val }"),
+     "(record { id = renumbered keep (l .id); val = l .val }", "(record { id = l .id; val = l .val }"),
     ("a declaration whose condition is not noted", "meaning", "Book",
-     "conditions = cs ++ b .conditions", "conditions = b .conditions"),
+     "(record { id = n; val = v } ∷ []); conditions = cs ++ b .conditions", "(record { id = n; val = v } ∷ []); conditions = b .conditions"),
+    ("a guard whose condition is not noted", "meaning", "Book",
+     "record { lines = b .lines; conditions = cs ++ b .conditions }", "record { lines = b .lines; conditions = b .conditions }"),
+    ("a dropped node that maps to 0", "retain", "Retain",
+     "DROPPED = 2 ^ 64 - 1", "DROPPED = 0"),
     ("Concat's parts swapped in what it means", "meaning", "Value",
      "valued t (x * 2 ^ v + y)", "valued t (y * 2 ^ v + x)"),
     ("Slice's offset left out of what it means", "meaning", "Value",
      "valued t (v / 2 ^ o)", "valued t v"),
     ("Integer read unsigned where a range is compared", "meaning", "Value",
      "integerOf ty.Integer v = signed 128 v", "integerOf ty.Integer v = pos v"),
+    ("unsigned orders by ranges that may be negative", "assume", "Limits",
+     "(both (nonnegative a) (nonnegative b))", "(one (nonnegative a) (nonnegative b))"),
+    ("not less: one more than the least", "assume", "Limits",
+     "notLessLimits a b = pair (limits (some (b .low)) none)", "notLessLimits a b = pair (limits (oneMore (b .low)) none)"),
+    ("at most: one less than the largest", "assume", "Limits",
+     "lessEqualLimits a b = pair (limits none (some (b .high)))", "lessEqualLimits a b = pair (limits none (oneLess (b .high)))"),
+    ("apart from a range of more than one value", "assume", "Limits",
+     "    cond (eqZ (b .low) (b .high))\n", "    cond (one (eqZ (b .low) (b .high)) (eqZ (a .low) (b .low)))\n"),
+    ("apart from a point: narrowed at the wrong end", "assume", "Limits",
+     "(provided (eqZ (a .high) (b .high)) (oneLess (a .high)))", "(provided (eqZ (a .low) (b .high)) (oneLess (a .high)))"),
+    ("NotEqual taken for Equal", "assume", "Limits",
+     "(cond (sameBinary o bi.NotEqual) (cond e (apartLimits a b) (equalLimits a b))", "(cond (sameBinary o bi.NotEqual) (cond e (equalLimits a b) (apartLimits a b))"),
+    ("a meet that is empty", "assume", "Limits",
+     "(both (leZ (met .low) (met .high)) (not (sameType t ty.Bool)))", "(not (sameType t ty.Bool))"),
+    ("the larger of two upper ends", "assume", "Limits",
+     "high = minZ (a .high) (orEnd (l .upper) (a .high))", "high = maxZ (a .high) (orEnd (l .upper) (a .high))"),
+    ("the base of a sum with the offset's sign turned", "assume", "Refine",
+     "undoneBits w o c z = cond (sameBinary o bi.Sub)", "undoneBits w o c z = cond (sameBinary o bi.Add)"),
+    ("narrowing through a sum whose shifted interval wraps", "assume", "Refine",
+     "ordered a b = only (leb a b) (record", "ordered a b = only (leb 0 b) (record"),
+    ("the base of a product refined", "assume", "Refine",
+     "sums = bi.Add ∷ bi.Sub ∷ []", "sums = bi.Add ∷ bi.Sub ∷ bi.Mul ∷ []"),
+    ("a base of another type refined", "assume", "Refine",
+     "provided (sameType (typeAt g (c .base)) t) (mapped", "provided (leb 0 (c .base)) (mapped"),
+    ("limits of left and right swapped", "assume", "Assume",
+     "thenRefined (refined unchanged g a (p .left) .outcome) (refined unchanged g a (p .left) .words) b (p .right)", "thenRefined (refined unchanged g a (p .right) .outcome) (refined unchanged g a (p .right) .words) b (p .left)"),
+    ("a BoolNot that does not turn what is expected", "guard", "Condition",
+     "behind g k i (not e))", "behind g k i e)"),
+    ("an alias to another node than the Refine", "assume", "Refine",
+     "aliasTo n a (insert.id m) h = step narrowed (baseOf (aliased h n m) n a) (aliased h n m)", "aliasTo n a (insert.id m) h = step narrowed (baseOf (aliased h n m) n a) (aliased h n n)"),
 ]
 
 
@@ -100,7 +134,7 @@ def without_code(source, target, laws):
 
 def needed_laws():
     """The files of proofs/ that demand 3 stands on, by crate: a law that it does not cite would refuse for its own sake."""
-    laws, todo = {}, [("meaning", "Builders")]
+    laws, todo = {}, [("meaning", "Demand3")]
     while todo:
         crate, law = todo.pop()
         if law in laws.setdefault(crate, set()):
@@ -113,7 +147,7 @@ def needed_laws():
 
 def copy(room):
     lines, laws = [], needed_laws()
-    needed = ["bits", "word", "range", "evaluate", "graph", "fold", "bitfield", "plan", "plan_slice", "plan_binary", "build", "retain", "native", "meaning"]
+    needed = ["bits", "word", "range", "evaluate", "graph", "fold", "bitfield", "plan", "plan_slice", "plan_binary", "guard", "assume", "build", "retain", "native", "meaning"]
     for line in (ROOT / "crates.txt").read_text().splitlines():
         name = line.partition(":")[0]
         if name in needed:
@@ -156,4 +190,5 @@ def main():
     sys.exit(1 if left else 0)
 
 
-main()
+if __name__ == "__main__":
+    main()

@@ -1,5 +1,6 @@
 // The calls for C and Rust: numbers and slices alone.
 pub mod declare;
+pub mod guards;
 pub mod keep;
 pub mod operate;
 

@@ -41,7 +41,7 @@ fn unary_by_code(code: u64, parameter: u64) -> MaybeUnary
     }
 }
 
-fn binary_by_code(code: u64) -> MaybeBinary
+pub(crate) fn binary_by_code(code: u64) -> MaybeBinary
     ensures { λ r. ⌜ binaryNamed r ≡ binaryByCode code ⌝ }
 {
     if code < 20 {

@@ -7,16 +7,18 @@ use Prim.Native.Nat.{ℕ, zero, suc, _+_, _-_, _<_, _≤_}
 use native.Mathlib.Nat.{le-refl}
 use native.Mathlib.Omega.{arith}
 use borrow.Author.Tests.{ltb-true, leb-true, eqb-true, eq-eqb, ne-eqb, lt-ltb, le-leb}
-use lib.Dec.{eqb, ltb, leb}
+use lib.Dec.{eqb, ltb, leb, lit≤}
 use lib.ListN as list
 use lib.ListN.{getD, drop}
 use lib.Seq.{getD-drop}
+use Rattle.range.specs.declared.ScalarType.the-variants as ty
 use Rattle.range.proofs.Sound.{tests, either}
+use Rattle.evaluate.specs.Operator.{typeWidth}
 use Rattle.evaluate.specs.declared.Unary.{Unary}
 use Rattle.evaluate.specs.declared.Binary.{Binary}
 use Rattle.graph.specs.Layout.{REGION, LIMIT, nodeStart, wordAt, countOf}
 use Rattle.graph.specs.Node as node
-use Rattle.graph.specs.Node.{Op, narrow, pair, operationOf, operationAt, aliasAt}
+use Rattle.graph.specs.Node.{Op, narrow, pair, typeOf, typeAt, operationOf, operationAt, aliasAt}
 use Rattle.graph.specs.Insert.{start, follow, resolve}
 use Rattle.graph.specs.WellFormed.{isType, isRange, areFields, isOperation, isAlias, isNode, areNodes, areZeros, isGraph}
 use Rattle.graph.proofs.Tests.{pass-of, all-pass}
@@ -113,6 +115,16 @@ type-width code width =
     none : eqb width 0 ≡ true → narrow width ≡ width
     none e = let h = eqb-true width 0 e in omega arith
 
+-- and it is at most 128
+type-small : (code width : ℕ) → isType code width ≡ true → typeWidth (typeOf code width) ≤ 128
+type-small code width = by (eqb code 0) (eqb code 1)
+  where
+    by : (s t : Bool) → cond s (eqb width 0) (cond t (leb width 128) (cond (eqb code 2) (eqb width 0) false)) ≡ true
+        → typeWidth (cond s ty.Bool (cond t (ty.Bits (narrow width)) ty.Integer)) ≤ 128
+    by true t e = lit≤ tt
+    by false true e = let l = leb-true width 128 e in omega arith
+    by false false e = lit≤ tt
+
 fields : (x xlimit y ylimit z zlimit : ℕ) → areFields x xlimit y ylimit z zlimit ≡ true → (x < xlimit) × (y < ylimit) × (z < zlimit)
 fields x xlimit y ylimit z zlimit e =
     let d = tests (ltb x xlimit) _ e in
@@ -168,6 +180,10 @@ module _ (n code x y z : ℕ) where
 module _ {g : List ℕ} (f : Graph g) where
   pub alias-of : (n : ℕ) → n < countOf g → (aliasAt g n ≡ 0) ⊎ ((n < aliasAt g n - 1) × (aliasAt g n ≤ countOf g))
   alias-of n h = node-facts g (countOf g) n (f .node n h) .alias
+
+  -- a type's width is at most 128
+  pub width-of : (n : ℕ) → n < countOf g → typeWidth (typeAt g n) ≤ 128
+  width-of n h = type-small (wordAt g n 0) (wordAt g n 1) (node-facts g (countOf g) n (f .node n h) .type)
 
   pub operation-of : (n : ℕ) → n < countOf g → Operation n (wordAt g n 7) (wordAt g n 8) (wordAt g n 9) (wordAt g n 10)
   operation-of n h = operation-facts n _ _ _ _ (node-facts g (countOf g) n (f .node n h) .operation)

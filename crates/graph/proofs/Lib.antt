@@ -6,4 +6,7 @@ pub mod Search
 pub mod Interned
 pub mod Kept
 pub mod Wiping
+pub mod Restored
 pub mod Appended
+pub mod Aliases
+pub mod Words

@@ -11,6 +11,10 @@ WORDS = 12
 abbrev pub KEY : ℕ
 KEY = 11
 
+-- the word of a node's alias, past its key
+abbrev pub ALIAS : ℕ
+ALIAS = KEY
+
 -- the word of the first node
 abbrev pub FIRST : ℕ
 FIRST = 1

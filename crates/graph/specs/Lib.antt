@@ -3,3 +3,4 @@ pub mod Node
 pub mod Insert
 pub mod WellFormed
 pub mod Clear
+pub mod Alias

@@ -10,10 +10,14 @@ pub const SIZE: usize = 12;
 pub const WORDS: u64 = SIZE as u64;
 // Words of a node's key: type, range and operation. The alias comes after them.
 pub const KEY: usize = 11;
+// The word of a node's alias.
+pub const ALIAS: usize = KEY;
 // The word of the first node.
 pub const FIRST: u64 = 1;
-// The most nodes.
-pub const LIMIT: u64 = 512;
+// The most nodes, as an array's length and as a number.
+pub const NODES: usize = 512;
+
+pub const LIMIT: u64 = NODES as u64;
 // Words of the region.
 pub const REGION: usize = (FIRST + WORDS * LIMIT) as usize;
 

@@ -1,4 +1,5 @@
 // The node region: nodes in a lent slice of 64-bit words, interning, and the builders of leaves.
+pub mod alias;
 pub mod clear;
 pub mod encode;
 pub mod insert;

@@ -33,7 +33,8 @@ use Rattle.plan.specs.Plan.{Plan, First, tries, binaryRest, constantOr}
 use Rattle.plan_binary.specs.Binary.{isSwapped, evaluated, shiftPlan, offsetPlan, comparedPlan, twice, rightPlan, orPlan, literalPlan, decidedPlan, sumPlan, storePlan, binaryPlan, equalityFirst, openFirst, binaryFirst}
 use Rattle.build.specs.Build.{binary}
 use Rattle.build.specs.Rest.{restPlan}
-use Rattle.meaning.specs.Value.{Env, size, ofType, andThen, binaryMeans, value}
+use Rattle.meaning.specs.Value.{size, ofType, andThen, binaryMeans}
+use Rattle.meaning.proofs.Worlds.{World, value}
 use Rattle.meaning.proofs.Values.{typed-is, typed-of}
 use Rattle.meaning.proofs.Invariant.{storedTyped, Inv, inv-width, inv-valid, ext-here, ext-type, ext-value, Storable, Kept}
 use Rattle.meaning.proofs.Compared.{mask-value}
@@ -49,7 +50,7 @@ use Rattle.meaning.proofs.Tree.{Callable}
 use Rattle.meaning.proofs.Unary.{binary-ends, binary-valid, binary-small}
 use Rattle.meaning.proofs.Views.{same-type, value-small}
 
-module _ {ρ : Env} {g : List ℕ} (i : Inv ρ g) (t : ScalarType) (o : Binary) (l r : ℕ) (k : Callable g (binary t o l r)) where
+module _ {ρ : World} {g : List ℕ} (i : Inv ρ g) (t : ScalarType) (o : Binary) (l r : ℕ) (k : Callable g (binary t o l r)) where
   abbrev Asked : Plan → Type 0
   Asked p = Claim ρ g t (binaryMeans t o (value ρ g l) (value ρ g r)) p
 
@@ -69,14 +70,14 @@ module _ {ρ : Env} {g : List ℕ} (i : Inv ρ g) (t : ScalarType) (o : Binary) 
         parameter = omega arith;
         valid = binary-valid o t (typeAt g l) (typeAt g r) (rangeAt g l) (rangeAt g r) a (inv-valid i l (k .1)) (inv-valid i r (k .2)) (i .ends l (k .1)) e;
         typed = k .3;
-        refined = tt;
+        refined = λ sure. tt;
         ends = ends;
-        within = λ v q.
+        within = λ sure v q.
             let d = operands ρ g t o l r v q in
             let p = evaluated-is (evaluateBinary o t (d .x) (d .y)) v (d .means) in
             binary-within o t (typeAt g l) (typeAt g r) (rangeAt g l) (rangeAt g r) a (d .x) (d .y) v (k .3) (k .0)
-            (value-small i l (k .1) (d .x) (d .left)) (value-small i r (k .2) (d .y) (d .right)) (i .ranged l (k .1) (d .x) (d .left))
-            (i .ranged r (k .2) (d .y) (d .right)) (i .ends l (k .1)) (p .0) (p .1) e;
+            (value-small i l (k .1) (d .x) (d .left)) (value-small i r (k .2) (d .y) (d .right)) (i .ranged l (k .1) sure (d .x) (d .left))
+            (i .ranged r (k .2) sure (d .y) (d .right)) (i .ends l (k .1)) (p .0) (p .1) e;
       }
     where
       evaluated-is : (a : Option ℕ) (v : ℕ) → andThen a (ofType t) ≡ some v → (a ≡ some v) × (v < size t)
@@ -86,7 +87,7 @@ module _ {ρ : Env} {g : List ℕ} (i : Inv ρ g) (t : ScalarType) (o : Binary) 
   store-claim : (a : Option (Option Interval)) → binaryRange t o (rangeAt g l) (rangeAt g r) ≡ a → (d : Option Plan) → ((p : Plan) → d ≡ some p → Asked p)
       → Asked (storePlan t o l r d a)
   store-claim none e d h = tt
-  store-claim (some a) e d h = by-given Asked d h (λ n. (refl, store-storable a e, λ x q. q))
+  store-claim (some a) e d h = by-given Asked d h (λ n. (refl, store-storable a e, λ sure x q. q))
 
   -- ---- the plan after the masked comparison
 
@@ -125,7 +126,7 @@ module _ {ρ : Env} {g : List ℕ} (i : Inv ρ g) (t : ScalarType) (o : Binary) 
           let same = reduced-same t v small in (
             refl,
             record { width = k .0; small = subst (λ (n : ℕ). n < size t) (sym same) small },
-            λ x e.
+            λ sure x e.
                 let w : binaryMeans t o (value ρ g l) (value ρ g r) ≡ some v
                 = (λ j. binaryMeans t o (va j) (vb j)) ∙ ap (λ (c : Option ℕ). andThen c (ofType t)) d ∙ typed-of t v small in
                 ap some same ∙ sym w ∙ e,
@@ -165,7 +166,7 @@ result-bool a b t =
     let bool : both (sameType t ty.Bool) (sameType a b) ≡ true → t ≡ ty.Bool = λ s. same-type t ty.Bool (tests (sameType t ty.Bool) _ s .0) in
     of-any (λ o. storedTyped o a b t ≡ true → t ≡ ty.Bool) equalities (bool, (bool, tt))
 
-module _ {ρ : Env} {g : List ℕ} (i : Inv ρ g) (o : Binary) (l r : ℕ) (k : Callable g (binary ty.Bool o l r)) (q : isAny equalities o ≡ true) where
+module _ {ρ : World} {g : List ℕ} (i : Inv ρ g) (o : Binary) (l r : ℕ) (k : Callable g (binary ty.Bool o l r)) (q : isAny equalities o ≡ true) where
   -- its value, where both operands have one
   mask-covers : (w : ℕ) (b : ℕ) (c d : ℕ) → maskedComparison g o l r ≡ some (record { type = ty.Bits w; base = b; mask = c; result = ty.Bool; op = o; literal = d })
       → Covers (binaryMeans ty.Bool o (value ρ g l) (value ρ g r))
@@ -197,12 +198,12 @@ module _ {ρ : Env} {g : List ℕ} (i : Inv ρ g) (o : Binary) (l r : ℕ) (k : 
         refl,
         omega arith,
         compare-typed (f .width) o q,
-        mask-covers (f .width) (m .base) (m .mask) (m .literal) (e ∙ ap some s),
+        λ sure. mask-covers (f .width) (m .base) (m .mask) (m .literal) (e ∙ ap some s),
       )
 
 -- ---- binary whole
 
-module _ {ρ : Env} {g : List ℕ} (i : Inv ρ g) (t : ScalarType) (o : Binary) (l r : ℕ) (k : Callable g (binary t o l r)) where
+module _ {ρ : World} {g : List ℕ} (i : Inv ρ g) (t : ScalarType) (o : Binary) (l r : ℕ) (k : Callable g (binary t o l r)) where
   abbrev Begun : First → Type 0
   Begun f = FirstClaim ρ g t (binaryMeans t o (value ρ g l) (value ρ g r)) f
 

@@ -1,9 +1,9 @@
--- Every plan is good, so the six builders are sound; and with them demand 3, question 1 and keys hold of every list of calls. Assumes nothing.
+-- Every plan is good, so the six builders are sound. Assumes nothing.
 use mathlib.Core.Path.{_≡_, refl, sym, ap, _∙_, subst}
 use mathlib.Core.Bool.{Bool, true, false, cond, false≢true}
 use mathlib.Core.List.{List}
 use mathlib.Core.Option.{Option, none, some}
-use Prim.Native.Nat.{ℕ, _<_}
+use Prim.Native.Nat.{ℕ}
 use borrow.Author.Tests.{eqb-true}
 use Rattle.range.specs.declared.ScalarType.{ScalarType}
 use Rattle.range.specs.declared.ScalarType.the-variants as ty
@@ -11,9 +11,6 @@ use Rattle.evaluate.specs.Evaluate.{evaluateUnary}
 use Rattle.evaluate.specs.Operator.{unaryWidth}
 use Rattle.evaluate.specs.declared.Unary.{Unary}
 use Rattle.evaluate.specs.declared.Unary.the-variants as un
-use Rattle.graph.specs.Layout.{countOf}
-use Rattle.graph.specs.Node.{nodeAt}
-use Rattle.graph.specs.WellFormed.{isGraph}
 use Rattle.graph.specs.Insert.{literal, resolve}
 use Rattle.fold.specs.Shape.{given}
 use Rattle.plan.specs.Plan as plan
@@ -24,17 +21,14 @@ use Rattle.plan_binary.specs.Binary.{binaryFirst}
 use Rattle.build.specs.Build.{Call, identity, unary, modular, binary, slice, concat, step, build}
 use Rattle.build.specs.Rest.{restPlan}
 use Rattle.native.specs.Typing.{unaryTyped, concatTyped}
-use Rattle.meaning.specs.Book.{Action, AllMet, play, Demand3}
-use Rattle.meaning.specs.Value.{Env, valued, andThen, unaryMeans, binaryMeans, sliceMeans, concatMeans, value}
+use Rattle.meaning.specs.Value.{valued, andThen, unaryMeans, binaryMeans, sliceMeans, concatMeans}
+use Rattle.meaning.proofs.Worlds.{World, value}
 use Rattle.meaning.proofs.Binary.{binary-first-claim}
 use Rattle.meaning.proofs.Concat.{concat-first-claim}
-use Rattle.graph.proofs.Appended.{Keys}
 use Rattle.meaning.proofs.Invariant.{storedTyped, Inv, ext-here, ext-type, ext-value, Kept, resolve-leads}
 use Rattle.meaning.proofs.Modular.{modular-claim}
 use Rattle.meaning.proofs.Plans.{Claim, Tail, FirstClaim, perform-good, first-good}
-use Rattle.meaning.proofs.Play.{demand3-of, play-graph, grown}
 use Rattle.meaning.proofs.Slice.{slice-first-claim}
-use Rattle.meaning.proofs.Tested.{range-sound}
 use Rattle.meaning.proofs.Tree.{typeOf, meaning, Callable, Sound, Good, build-sound}
 use Rattle.meaning.proofs.Unary.{unary-constant-claim, unary-plan-claim}
 use Rattle.meaning.proofs.Views.{identity-claim, covers-truncate}
@@ -53,7 +47,7 @@ reduction-is (ty.Bits t) (un.SignExtend w) e = absurd (false≢true e)
 reduction-is (ty.Bits t) (un.LeadingZeros w) e = absurd (false≢true e)
 reduction-is (ty.Bits t) (un.TrailingZeros w) e = absurd (false≢true e)
 
-module _ {ρ : Env} {g : List ℕ} (i : Inv ρ g) (t : ScalarType) (o : Unary) (n : ℕ) (k : Callable g (unary t o n)) where
+module _ {ρ : World} {g : List ℕ} (i : Inv ρ g) (t : ScalarType) (o : Unary) (n : ℕ) (k : Callable g (unary t o n)) where
   -- after modular, on the graph as it then is
   rest-claim : (h : List ℕ) → Kept ρ g h → Claim ρ h t (unaryMeans t o (value ρ g n)) (restPlan h (unaryRest t o n))
   unfolding restPlan
@@ -67,7 +61,7 @@ module _ {ρ : Env} {g : List ℕ} (i : Inv ρ g) (t : ScalarType) (o : Unary) (
       let p = reduction-is t o e in (
         (k .1, k .2),
         ap (λ (u : Unary). ty.Bits (unaryWidth u)) (p .2) ∙ sym (p .1),
-        λ x q.
+        λ sure x q.
             (λ j. andThen (value ρ g n) (valued (ty.Bits (unaryWidth (p .2 j)))))
             ∙ covers-truncate (p .0) (value ρ g n) x ((λ j. unaryMeans (sym (p .1) j) (sym (p .2) j) (value ρ g n)) ∙ q),
       )
@@ -88,7 +82,7 @@ module _ {ρ : Env} {g : List ℕ} (i : Inv ρ g) (t : ScalarType) (o : Unary) (
 
 -- ---- every builder, its operands resolved
 
-plans : (ρ : Env) (c : Call) (g : List ℕ) → Inv ρ g → Callable g c → Good ρ (typeOf c) (meaning (value ρ g) c) (step c g) g
+plans : (ρ : World) (c : Call) (g : List ℕ) → Inv ρ g → Callable g c → Good ρ (typeOf c) (meaning (value ρ g) c) (step c g) g
 plans ρ (identity t v) g i k = perform-good ρ t (andThen (value ρ g v) (valued t)) g i (identityPlan g t v) (identity-claim i v (k .1) t (k .0))
 plans ρ (unary t o v) g i k =
     let d = resolve-leads ρ g i v (k .2) in
@@ -116,25 +110,5 @@ plans ρ (concat h l v w) g i k =
     (k .0, k .1, a .here, b .here, (λ j. concatTyped (a .type j) (b .type j) v w) ∙ k .4)))
 
 -- the six builders: every answer means what was asked for, and the invariant is kept
-pub builds : (ρ : Env) → Sound ρ build
+pub builds : (ρ : World) → Sound ρ build
 builds ρ = build-sound ρ (plans ρ)
-
--- ---- demand 3, of every list of calls from the empty graph and all values that meet every condition
-
-pub demand3 : (ρ : Env) (calls : List Action) → AllMet ρ (play ρ calls .book .conditions) → Demand3 ρ (play ρ calls)
-demand3 ρ = demand3-of ρ (builds ρ) (range-sound ρ (builds ρ))
-
--- ---- question 1 and keys, of every list of calls from the empty graph, whatever the values
-
--- the graph passes question 1
-pub grown-graph : (ρ : Env) (calls : List Action) → isGraph (play ρ calls .graph) ≡ true
-grown-graph ρ calls =
-    let (σ, i) = grown builds (λ σ. range-sound σ (builds σ)) calls in
-    ap isGraph (play-graph ρ σ calls) ∙ i .graph
-
--- no two nodes have one type, range and operation
-pub grown-keys : (ρ : Env) (calls : List Action) (n m : ℕ) → n < m → m < countOf (play ρ calls .graph)
-    → nodeAt (play ρ calls .graph) n ≡ nodeAt (play ρ calls .graph) m → ⊥
-grown-keys ρ calls =
-    let (σ, i) = grown builds (λ σ. range-sound σ (builds σ)) calls in
-    subst Keys (play-graph σ ρ calls) (i .keys)

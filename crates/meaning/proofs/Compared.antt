@@ -37,16 +37,16 @@ use Rattle.meaning.proofs.Constants.{reduced-same, pattern, size-pos, v
 
 -- ---- order and equality of integers in intervals
 
-less-false : (x y : ℤ) → ltZ x y ≡ false → y ≤ℤ x
+pub less-false : (x y : ℤ) → ltZ x y ≡ false → y ≤ℤ x
 less-false x y e = at-most y x (le-not-less y x e)
 
-same-is : (x y : ℤ) → eqZ x y ≡ true → x ≡ y
+pub same-is : (x y : ℤ) → eqZ x y ≡ true → x ≡ y
 same-is (pos m) (pos n) e = ap pos (eqb-true m n e)
 same-is (pos m) (negsuc n) e = cc
 same-is (negsuc m) (pos n) e = cc
 same-is (negsuc m) (negsuc n) e = ap negsuc (eqb-true m n e)
 
-same-parts : (x y : ℤ) → up x + down y ≡ up y + down x → x ≡ y
+pub same-parts : (x y : ℤ) → up x + down y ≡ up y + down x → x ≡ y
 same-parts (pos m) (pos n) e = ap pos (omega arith)
 same-parts (pos m) (negsuc n) e = absurd (omega arith)
 same-parts (negsuc m) (pos n) e = absurd (omega arith)
@@ -116,13 +116,13 @@ below-end n (pos m) h l q = omega orders
 below-end n (negsuc m) h l q = absurd (omega orders)
 
 -- a value of any type with a range is the integer that its pattern stands for
-read : (s : ScalarType) (x : ℕ) (a : Interval) → (integerOf s x) ∈ a → Ends a → integerOf s x ≡ signed 128 x
+pub read : (s : ScalarType) (x : ℕ) (a : Interval) → (integerOf s x) ∈ a → Ends a → integerOf s x ≡ signed 128 x
 read ty.Bool x a f e = sym (signed-low 128 x (below-end x (a .high) (2 ^ 127) (f .below) (e .high)))
 read (ty.Bits w) x a f e = sym (signed-low 128 x (below-end x (a .high) (2 ^ 127) (f .below) (e .high)))
 read ty.Integer x a f e = refl
 
 -- an integer that isn't negative is its pattern
-natural : (w x : ℕ) → x < 2 ^ w → pos 0 ≤ℤ signed w x → signed w x ≡ pos x
+pub natural : (w x : ℕ) → x < 2 ^ w → pos 0 ≤ℤ signed w x → signed w x ≡ pos x
 natural w x l h =
     ⊎-elim (λ (q : x < 2 ^ (w - 1)). signed-low w x q)
     (λ (q : 2 ^ (w - 1) ≤ x). absurd (below (2 ^ w - suc x) (subst (λ (z : ℤ). pos 0 ≤ℤ z) (signed-high w x q l) h)))
@@ -144,7 +144,7 @@ module _ (x y : ℕ) (a b : Interval) (l : x < 2 ^ 128) (m : y < 2 ^ 128) (f : (
   equal-mapped none truth d e = cc
   equal-mapped (some t) truth d e = ap not (equal-value t d) ∙ cc
 
-  unsigned : unsignedToo a b ≡ true → (signed 128 x ≡ pos x) × (signed 128 y ≡ pos y)
+  pub unsigned : unsignedToo a b ≡ true → (signed 128 x ≡ pos x) × (signed 128 y ≡ pos y)
   unsigned e =
       let t = tests (nonnegative a) (nonnegative b) e in
       let p = at-most (pos 0) (a .low) (t .0) in

@@ -35,7 +35,8 @@ use Rattle.build.specs.Rest.{restPlan}
 use Rattle.build.specs.Build.{concat}
 use Rattle.native.specs.Typing.{concatTyped}
 use Rattle.bits.proofs.Slices.{slice-high, slice-low, slice-join}
-use Rattle.meaning.specs.Value.{Env, valued, andThen, binaryMeans, sliceMeans, concatMeans, value}
+use Rattle.meaning.specs.Value.{valued, andThen, binaryMeans, sliceMeans, concatMeans}
+use Rattle.meaning.proofs.Worlds.{World, value}
 use Rattle.meaning.proofs.Values.{typed-is, then-is, means-small}
 use Rattle.meaning.proofs.Compared.{mask-value}
 use Rattle.meaning.proofs.Answers.{given-is, by-test, by-given}
@@ -48,7 +49,7 @@ use Rattle.meaning.proofs.Field.{means-at, below-at, literal-value, sid
 
 -- ---- a new node
 
-concat-storable : (ρ : Env) (g : List ℕ) (high low v w : ℕ) → Callable g (concat high low v w)
+concat-storable : (ρ : World) (g : List ℕ) (high low v w : ℕ) → Callable g (concat high low v w)
     → Storable ρ g (ty.Bits w) (typeInterval (ty.Bits w)) (node.concat high low v)
 concat-storable ρ g high low v w c =
     let narrow = c .0 in
@@ -69,15 +70,15 @@ concat-storable ρ g high low v w c =
       parameter = narrow;
       valid = type-valid (ty.Bits w);
       typed = (w, refl, c .4);
-      refined = tt;
+      refined = λ sure. tt;
       ends = type-ends (ty.Bits w);
-      within = λ x e. type-within (ty.Bits w) x (means-small ρ (ty.Bits w) (node.concat high low v) (value ρ g) x e);
+      within = λ sure x e. type-within (ty.Bits w) x (means-small (ρ .env) (ty.Bits w) (node.concat high low v) (value ρ g) x e);
     }
 
-pub concat-plan-claim : (ρ : Env) (g : List ℕ) (high low v w : ℕ) → Callable g (concat high low v w)
+pub concat-plan-claim : (ρ : World) (g : List ℕ) (high low v w : ℕ) → Callable g (concat high low v w)
     → Claim ρ g (ty.Bits w) (concatMeans (ty.Bits w) v (value ρ g high) (value ρ g low)) (concatPlan high low v w)
 unfolding concatPlan
-concat-plan-claim ρ g high low v w c = (refl, concat-storable ρ g high low v w c, λ x e. e)
+concat-plan-claim ρ g high low v w c = (refl, concat-storable ρ g high low v w c, λ sure x e. e)
 
 -- ---- an operation that is a slice
 
@@ -147,7 +148,7 @@ module _ (g : List ℕ) (n i : ℕ) (l : n < countOf g) where
   op-here (node.unary o p) b = unary-here o p (omega arith)
   op-here (node.binary o p q) b = by-given (StepHere g) (literal g q) (λ k e. masked-here o (hasBit k i) p (omega arith)) (λ e. l)
 
-module _ {ρ : Env} {g : List ℕ} (inv : Inv ρ g) where
+module _ {ρ : World} {g : List ℕ} (inv : Inv ρ g) where
   step-here : (n i : ℕ) → n < countOf g → StepHere g (bitStep g n i)
   unfolding bitStep
   step-here n i l =
@@ -200,7 +201,7 @@ masked-means w u keep lit z lk ll e =
 
 -- ---- the parts of a value
 
-record Joins (ρ : Env) (g : List ℕ) (high low v w z : ℕ) : Type 0 where
+record Joins (ρ : World) (g : List ℕ) (high low v w z : ℕ) : Type 0 where
   x : ℕ
   y : ℕ
   left : value ρ g high ≡ some x
@@ -209,7 +210,7 @@ record Joins (ρ : Env) (g : List ℕ) (high low v w z : ℕ) : Type 0 where
   below : y < 2 ^ v
   means : z ≡ (x * 2 ^ v + y) % 2 ^ w
 
-module _ {ρ : Env} {g : List ℕ} (i : Inv ρ g) (high low v w : ℕ) (c : Callable g (concat high low v w)) where
+module _ {ρ : World} {g : List ℕ} (i : Inv ρ g) (high low v w : ℕ) (c : Callable g (concat high low v w)) where
   -- what is to hold of a plan, and of what is done first
   abbrev Claims : Plan → Type 0
   Claims p = Claim ρ g (ty.Bits w) (concatMeans (ty.Bits w) v (value ρ g high) (value ρ g low)) p
@@ -234,7 +235,7 @@ module _ {ρ : Env} {g : List ℕ} (i : Inv ρ g) (high low v w : ℕ) (c : Call
   -- a constant that every sum of parts is
   constant-claim : (n : ℕ) → ((z : ℕ) (j : Joins ρ g high low v w z) → j .x * 2 ^ v + j .y ≡ n)
       → Claims (plan.constant (ty.Bits w) n)
-  constant-claim n k = (refl, bits-number (c .1) n, λ z e. let j = joins z e in ap some (sym (j .means ∙ ap (λ (m : ℕ). m % 2 ^ w) (k z j))))
+  constant-claim n k = (refl, bits-number (c .1) n, λ sure z e. let j = joins z e in ap some (sym (j .means ∙ ap (λ (m : ℕ). m % 2 ^ w) (k z j))))
 
   -- a slice of a node that holds both parts
   slice-claim : (n o : ℕ) → n < countOf g
@@ -243,7 +244,7 @@ module _ {ρ : Env} {g : List ℕ} (i : Inv ρ g) (high low v w : ℕ) (c : Call
   slice-claim n o l k = (
     (c .1, l),
     refl,
-    λ z e.
+    λ sure z e.
         let j = joins z e in
         let s = k z j in
         ap (sliceMeans (ty.Bits w) o) (s .1) ∙ low-valued w (s .0 / 2 ^ o)
@@ -353,7 +354,7 @@ module _ {ρ : Env} {g : List ℕ} (i : Inv ρ g) (high low v w : ℕ) (c : Call
           refl,
           c .1,
           (λ k. both (own k) (own k)),
-          λ z q.
+          λ sure z q.
               let j = joins z q in
               let s = says f e z j in
               let d : Gathers ρ g (j .x * 2 ^ v + j .y) (some b) (f .keep) (f .literal) =

@@ -24,7 +24,8 @@ use Rattle.evaluate.specs.Operator.{typeWidth}
 use Rattle.graph.specs.Node as node
 use Rattle.graph.specs.Insert.{constantInterval}
 use Rattle.graph.proofs.Codes.{lowEnd, highEnd}
-use Rattle.meaning.specs.Value.{Env, size, integerOf, ofType, valued, operationMeans, value}
+use Rattle.meaning.specs.Value.{size, integerOf, ofType, valued}
+use Rattle.meaning.proofs.Worlds.{World, operationMeans, value}
 use Rattle.meaning.proofs.Values.{typed-of}
 use Rattle.meaning.proofs.Invariant.{Ends, Within, Storable}
 
@@ -133,7 +134,7 @@ stored-low = stored-end lowEnd refl (λ a e. e .low)
 pub stored-high : (r : Option Interval) → ((a : Interval) → r ≡ some a → Ends a) → mag (highEnd r) < 2 ^ 127
 stored-high = stored-end highEnd refl (λ a e. e .high)
 
-module _ (ρ : Env) (g : List ℕ) (t : ScalarType) (c : ℕ) (l : typeWidth t ≤ 128) (h : c < size t) where
+module _ (ρ : World) (g : List ℕ) (t : ScalarType) (c : ℕ) (l : typeWidth t ≤ 128) (h : c < size t) where
   pub constant-means : operationMeans ρ t (node.constant c) (value ρ g) ≡ some c
   constant-means = valued-same t c h
 
@@ -152,7 +153,7 @@ module _ (ρ : Env) (g : List ℕ) (t : ScalarType) (c : ℕ) (l : typeWidth t �
     parameter = omega arith;
     valid = constant-valid t c l h;
     typed = h;
-    refined = tt;
+    refined = λ sure. tt;
     ends = constant-ends t c l h;
-    within = λ v e. let p : v ≡ c = sym (some-is (sym constant-means ∙ e)) in subst (λ (n : ℕ). Within t n (constantInterval t c)) (sym p) (constant-within t c l h);
+    within = λ sure v e. let p : v ≡ c = sym (some-is (sym constant-means ∙ e)) in subst (λ (n : ℕ). Within t n (constantInterval t c)) (sym p) (constant-within t c l h);
   }

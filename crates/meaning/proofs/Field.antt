@@ -34,7 +34,8 @@ use Rattle.range.proofs.Answers.{none-some, some-is, provided-is}
 use Rattle.bits.specs.Bit.{bit}
 use Rattle.bits.proofs.Bit.{bit-lt, bit-zero, bit-ext, bit-and, bit-or, bit-xor, bit-big, bit-shr, bit-mod, bit-mod-big, bit-high, bit-low-part}
 use Rattle.bits.proofs.Logic.{field-kept, kept-field}
-use Rattle.meaning.specs.Value.{Env, size, ofType, valued, andThen, binaryMeans, operationMeans, value}
+use Rattle.meaning.specs.Value.{size, ofType, valued, andThen, binaryMeans}
+use Rattle.meaning.proofs.Worlds.{World, operationMeans, value}
 use Rattle.meaning.proofs.Answers.{binary-is, by-test, by-given, given-is}
 use Rattle.meaning.proofs.Values.{typed-is, typed-of, then-is}
 use Rattle.meaning.proofs.Invariant.{storedTyped, Typed, Inv, inv-below, inv-width, inv-step}
@@ -44,17 +45,17 @@ use Rattle.meaning.proofs.Views.{same-type, value-small}
 -- ---- what is told of a bit
 
 -- of bit i of v
-abbrev pub Says : Env → List ℕ → ℕ → ℕ → Bit → Type 0
+abbrev pub Says : World → List ℕ → ℕ → ℕ → Bit → Type 0
 Says ρ g v i (known b) = bit v i ≡ fromBool b
 Says ρ g v i (source m j) = (m < countOf g) × (u : ℕ) × (value ρ g m ≡ some u) × (bit v i ≡ bit u j)
 
 -- by one step
-abbrev StepSays : Env → List ℕ → ℕ → ℕ → BitStep → Type 0
+abbrev StepSays : World → List ℕ → ℕ → ℕ → BitStep → Type 0
 StepSays ρ g v i (here b) = Says ρ g v i b
 StepSays ρ g v i (from p j) = (p < countOf g) × (u : ℕ) × (value ρ g p ≡ some u) × (bit v i ≡ bit u j)
 StepSays ρ g v i (flipped p j) = (p < countOf g) × (u : ℕ) × (value ρ g p ≡ some u) × (bit v i ≡ 1 - bit u j)
 
-says-same : (ρ : Env) (g : List ℕ) (v u i j : ℕ) (b : Bit) → bit v i ≡ bit u j → Says ρ g u j b → Says ρ g v i b
+says-same : (ρ : World) (g : List ℕ) (v u i j : ℕ) (b : Bit) → bit v i ≡ bit u j → Says ρ g u j b → Says ρ g v i b
 says-same ρ g v u i j (known b) e h = e ∙ h
 says-same ρ g v u i j (source m k) e h = (h .0, h .1, h .2, e ∙ h .3)
 
@@ -85,7 +86,7 @@ past-zero ty.Integer v i q l e = bit-big v 128 i l e
 
 -- ---- nodes with values
 
-module _ (ρ : Env) (g : List ℕ) (inv : Inv ρ g) where
+module _ (ρ : World) (g : List ℕ) (inv : Inv ρ g) where
   -- what a node of this operation means
   pub means-at : (n : ℕ) → n < countOf g → (v : ℕ) → value ρ g n ≡ some v → (o : Op) → operationAt g n ≡ o → operationMeans ρ (typeAt g n) o (value ρ g) ≡ some v
   means-at n l v ev o e = sym (inv-step inv n l ∙ ap (λ (p : Op). operationMeans ρ (typeAt g n) p (value ρ g)) e) ∙ ev
@@ -116,18 +117,18 @@ module _ (ρ : Env) (g : List ℕ) (inv : Inv ρ g) where
       go (node.unary u i) q e = absurd (none-some e)
       go (node.binary b i j) q e = absurd (none-some e)
 
-pub literal-below : {ρ : Env} {g : List ℕ} (i : Inv ρ g) (n c : ℕ) (t : ScalarType) → n < countOf g → typeAt g n ≡ t → literal g n ≡ some c → c < size t
+pub literal-below : {ρ : World} {g : List ℕ} (i : Inv ρ g) (n c : ℕ) (t : ScalarType) → n < countOf g → typeAt g n ≡ t → literal g n ≡ some c → c < size t
 literal-below {ρ} {g} i n c t l q e = subst (λ (s : ScalarType). c < size s) q (value-small i n l c (literal-value ρ g i n c l e))
 
 -- the operands of a binary operation with a value
-pub record Operands (ρ : Env) (g : List ℕ) (t : ScalarType) (o : Binary) (i j v : ℕ) : Type 0 where
+pub record Operands (ρ : World) (g : List ℕ) (t : ScalarType) (o : Binary) (i j v : ℕ) : Type 0 where
   pub x : ℕ
   pub y : ℕ
   pub left : value ρ g i ≡ some x
   pub right : value ρ g j ≡ some y
   pub means : andThen (evaluateBinary o t x y) (ofType t) ≡ some v
 
-pub operands : (ρ : Env) (g : List ℕ) (t : ScalarType) (o : Binary) (i j v : ℕ) → binaryMeans t o (value ρ g i) (value ρ g j) ≡ some v → Operands ρ g t o i j v
+pub operands : (ρ : World) (g : List ℕ) (t : ScalarType) (o : Binary) (i j v : ℕ) → binaryMeans t o (value ρ g i) (value ρ g j) ≡ some v → Operands ρ g t o i j v
 operands ρ g t o i j v e =
     let p = then-is (value ρ g i) (λ x. andThen (value ρ g j) (λ y. andThen (evaluateBinary o t x y) (ofType t))) v e in
     let q = then-is (value ρ g j) (λ y. andThen (evaluateBinary o t (p .0) y) (ofType t)) v (p .2) in
@@ -163,7 +164,7 @@ sides a b v w e =
 
 -- ---- one step
 
-module _ (ρ : Env) (g : List ℕ) (inv : Inv ρ g) (n i v : ℕ) (l : n < countOf g) (ev : value ρ g n ≡ some v) (a : above (typeAt g n) i ≡ false) where
+module _ (ρ : World) (g : List ℕ) (inv : Inv ρ g) (n i v : ℕ) (l : n < countOf g) (ev : value ρ g n ≡ some v) (a : above (typeAt g n) i ≡ false) where
   own : Says ρ g v i (source n i)
   own = (l, v, ev, refl)
 
@@ -293,7 +294,7 @@ module _ (ρ : Env) (g : List ℕ) (inv : Inv ρ g) (n i v : ℕ) (l : n < count
 
 -- ---- the walk
 
-module _ (ρ : Env) (g : List ℕ) (inv : Inv ρ g) where
+module _ (ρ : World) (g : List ℕ) (inv : Inv ρ g) where
   step-says : (n i v : ℕ) → n < countOf g → value ρ g n ≡ some v → StepSays ρ g v i (bitStep g n i)
   unfolding bitStep
   step-says n i v l ev = go (leb 128 i) refl (above (typeAt g n) i) refl
@@ -347,12 +348,12 @@ one-more i j l P a b = go (decLt j i)
     go (no q) = let e : i ≡ j = omega arith in subst P e b
 
 -- the value of the node that bits come from, if there is one yet
-abbrev From : Env → List ℕ → Option ℕ → ℕ → Type 0
+abbrev From : World → List ℕ → Option ℕ → ℕ → Type 0
 From ρ g none u = Unit {0}
 From ρ g (some m) u = (m < countOf g) × (value ρ g m ≡ some u)
 
 -- the i lowest bits of x
-record Parts (ρ : Env) (g : List ℕ) (x i : ℕ) (o : Option ℕ) (keep lit : ℕ) : Type 0 where
+record Parts (ρ : World) (g : List ℕ) (x i : ℕ) (o : Option ℕ) (keep lit : ℕ) : Type 0 where
   pub base : ℕ
   origin : From ρ g o base
   bare : o ≡ none → keep ≡ 0
@@ -360,16 +361,16 @@ record Parts (ρ : Env) (g : List ℕ) (x i : ℕ) (o : Option ℕ) (keep lit : 
   places : (j : ℕ) → j < i → bit x j ≡ max (min (bit base j) (bit keep j)) (bit lit j)
 
 -- what a whole field tells of x
-abbrev pub Gathers : Env → List ℕ → ℕ → Option ℕ → ℕ → ℕ → Type 0
+abbrev pub Gathers : World → List ℕ → ℕ → Option ℕ → ℕ → ℕ → Type 0
 Gathers ρ g x none keep lit = x ≡ lit
 Gathers ρ g x (some m) keep lit = (m < countOf g) × (u : ℕ) × (value ρ g m ≡ some u) × (x ≡ bitOr (bitAnd u keep) lit)
 
-pub record FieldSays (ρ : Env) (g : List ℕ) (x w : ℕ) (f : Field) : Type 0 where
+pub record FieldSays (ρ : World) (g : List ℕ) (x w : ℕ) (f : Field) : Type 0 where
   pub keep : f .keep < 2 ^ w
   pub literal : f .literal < 2 ^ w
   pub says : Gathers ρ g x (f .base) (f .keep) (f .literal)
 
-module _ (ρ : Env) (g : List ℕ) (x i : ℕ) where
+module _ (ρ : World) (g : List ℕ) (x i : ℕ) where
   -- a bit of a node: of the one so far, or of the first
   kept-place : (m u keep lit : ℕ) (o : Option ℕ) → Parts ρ g x i o keep lit → m < countOf g → value ρ g m ≡ some u → bit x i ≡ bit u i
       → sameBase o m ≡ true → Parts ρ g x (suc i) (some m) (1 * 2 ^ i + keep) lit
@@ -450,7 +451,7 @@ module _ (ρ : Env) (g : List ℕ) (x i : ℕ) where
       (rw (with-power (f .keep) i l (h .small .0))
       (kept-place m (t .1) (f .keep) (f .literal) (f .base) h (t .0) (t .2) (t .3 ∙ ap (bit (t .1)) (eqb-true j i (q .0))) (q .1)))
 
-field-from : (ρ : Env) (g : List ℕ) (x high low v : ℕ) → ((i : ℕ) (b : Bit) → concatBit g high low v i ≡ some b → Says ρ g x i b)
+field-from : (ρ : World) (g : List ℕ) (x high low v : ℕ) → ((i : ℕ) (b : Bit) → concatBit g high low v i ≡ some b → Says ρ g x i b)
     → (k i : ℕ) (f r : Field) → i + k ≤ 128 → Parts ρ g x i (f .base) (f .keep) (f .literal) → fieldFrom g high low v i k f ≡ some r
     → Parts ρ g x (i + k) (r .base) (r .keep) (r .literal)
 field-from ρ g x high low v says zero i f r l h e =
@@ -463,7 +464,7 @@ field-from ρ g x high low v says (suc k) i f r l h e =
     (field-from ρ g x high low v says k (suc i) (q .0) r (omega arith)
     (with-bit ρ g x i f (q .0) (p .0) (omega arith) h (says i (p .0) (p .1)) (q .1)) (q .2))
 
-gathers : (ρ : Env) (g : List ℕ) (x w : ℕ) (o : Option ℕ) (keep lit : ℕ) → Parts ρ g x w o keep lit → ((i : ℕ) → w ≤ i → bit x i ≡ 0) → Gathers ρ g x o keep lit
+gathers : (ρ : World) (g : List ℕ) (x w : ℕ) (o : Option ℕ) (keep lit : ℕ) → Parts ρ g x w o keep lit → ((i : ℕ) → w ≤ i → bit x i ≡ 0) → Gathers ρ g x o keep lit
 gathers ρ g x w none keep lit h past = bit-ext x lit (λ i. go i (decLt i w))
   where
     go : (i : ℕ) → Dec (i < w) → bit x i ≡ bit lit i
@@ -483,7 +484,7 @@ gathers ρ g x w (some m) keep lit h past =
           bit-big lit w i (h .small .1) (omega arith),
         )
 
-module _ (ρ : Env) (g : List ℕ) (inv : Inv ρ g) (high low v w a b : ℕ) (lh : high < countOf g) (ll : low < countOf g)
+module _ (ρ : World) (g : List ℕ) (inv : Inv ρ g) (high low v w a b : ℕ) (lh : high < countOf g) (ll : low < countOf g)
     (eh : value ρ g high ≡ some a) (el : value ρ g low ≡ some b) (typed : concatTyped (typeAt g high) (typeAt g low) v w ≡ true) (lw : w ≤ 128)
   where
     parted : Sides (typeAt g high) (typeAt g low) v w
@@ -578,7 +579,7 @@ linked g n c e = go (operationAt g n) refl e
             }
 
 -- node n is an operation by a constant
-module _ {ρ : Env} {g : List ℕ} (i : Inv ρ g) (n : ℕ) (l : n < countOf g) (c : Chain) (f : Linked g n c) where
+module _ {ρ : World} {g : List ℕ} (i : Inv ρ g) (n : ℕ) (l : n < countOf g) (c : Chain) (f : Linked g n c) where
   pub chain-here : (c .base < countOf g) × (f .constant < countOf g)
   chain-here = let b = below-at ρ g i n l (node.binary (c .op) (c .base) (f .constant)) (f .operation) in (omega arith, omega arith)
 
@@ -600,7 +601,7 @@ record AndSays (x y c w : ℕ) : Type 0 where
   small : c < 2 ^ w
 
 -- y is the value of i Or c
-record OrSays (ρ : Env) (g : List ℕ) (i y c w : ℕ) : Type 0 where
+record OrSays (ρ : World) (g : List ℕ) (i y c w : ℕ) : Type 0 where
   pub left : ℕ
   pub here : i < countOf g
   pub type : typeAt g i ≡ ty.Bits w
@@ -608,7 +609,7 @@ record OrSays (ρ : Env) (g : List ℕ) (i y c w : ℕ) : Type 0 where
   pub means : y ≡ bitOr left c
   small : c < 2 ^ w
 
-module _ (ρ : Env) (g : List ℕ) (inv : Inv ρ g) where
+module _ (ρ : World) (g : List ℕ) (inv : Inv ρ g) where
   valued-is : (t : ScalarType) (w z v : ℕ) → t ≡ ty.Bits w → z < 2 ^ w → valued t z ≡ some v → v ≡ z
   valued-is t w z v q l e =
       let f : valued (ty.Bits w) z ≡ some v = subst (λ (k : ScalarType). valued k z ≡ some v) q e in
@@ -659,7 +660,7 @@ record UpdateSays (x y kept lit w : ℕ) : Type 0 where
   pub literal : lit < 2 ^ w
 
 -- what a masked comparison tells of x and y
-pub record MaskSays (ρ : Env) (g : List ℕ) (o : Binary) (x y : ℕ) (m : Mask) : Type 0 where
+pub record MaskSays (ρ : World) (g : List ℕ) (o : Binary) (x y : ℕ) (m : Mask) : Type 0 where
   pub width : ℕ
   pub type : m .type ≡ ty.Bits width
   pub here : m .base < countOf g
@@ -672,7 +673,7 @@ pub record MaskSays (ρ : Env) (g : List ℕ) (o : Binary) (x y : ℕ) (m : Mask
   pub has : value ρ g (m .base) ≡ some base
   pub means : eqb x y ≡ eqb (bitAnd base (m .mask)) (m .literal)
 
-mask-swap : (ρ : Env) (g : List ℕ) (o : Binary) (x y : ℕ) (m : Mask) → MaskSays ρ g o y x m → MaskSays ρ g o x y m
+mask-swap : (ρ : World) (g : List ℕ) (o : Binary) (x y : ℕ) (m : Mask) → MaskSays ρ g o y x m → MaskSays ρ g o x y m
 mask-swap ρ g o x y m s = record {
   width = s .width;
   type = s .type;
@@ -687,7 +688,7 @@ mask-swap ρ g o x y m s = record {
   means = eqb-sym x y ∙ s .means;
 }
 
-module _ (ρ : Env) (g : List ℕ) (inv : Inv ρ g) (n w x y : ℕ) (l : n < countOf g) (t : typeAt g n ≡ ty.Bits w) (ey : value ρ g n ≡ some y) (c : Chain)
+module _ (ρ : World) (g : List ℕ) (inv : Inv ρ g) (n w x y : ℕ) (l : n < countOf g) (t : typeAt g n ≡ ty.Bits w) (ey : value ρ g n ≡ some y) (c : Chain)
     (o : c .op ≡ bi.And) (ex : value ρ g (c .base) ≡ some x) where
   -- the node itself is the And
   bare-update : (u : Update) → some (record { preserved = n; literal = 0 }) ≡ some u → chainAt g (u .preserved) ≡ some c
@@ -795,7 +796,7 @@ module _ (g : List ℕ) (o : Binary) where
       go end b e = absurd (none-some e)
       go (found h) b e = inl (ap found (some-is e))
 
-module _ (ρ : Env) (g : List ℕ) (inv : Inv ρ g) (o : Binary) where
+module _ (ρ : World) (g : List ℕ) (inv : Inv ρ g) (o : Binary) where
   module _ (base updated x y : ℕ) (lb : base < countOf g) (lu : updated < countOf g) (ex : value ρ g base ≡ some x) (ey : value ρ g updated ≡ some y) where
     changed-says : (w : ℕ) (u : Update) (c : Chain) → typeAt g base ≡ ty.Bits w → typeAt g updated ≡ ty.Bits w → updateAt g updated ≡ some u
         → chainAt g (u .preserved) ≡ some c → keeps base w (u .literal) c ≡ true → MaskSays ρ g o x y (changed o base w (u .literal) c)

@@ -20,3 +20,11 @@ pub mod Right
 pub mod Shifts
 pub mod Binary
 pub mod Builders
+pub mod Worlds
+pub mod Mapping
+pub mod Aliased
+pub mod Undone
+pub mod Narrowed
+pub mod Assumed
+pub mod Guards
+pub mod Demand3

@@ -2,7 +2,7 @@
 use mathlib.Core.Path.{_≡_, refl, sym, ap, _∙_, subst}
 use mathlib.Core.Bool.{Bool, true, false, false≢true}
 use mathlib.Core.List.{List}
-use mathlib.Core.Option.{Option, none, some}
+use mathlib.Core.Option.{Option, some}
 use Prim.Native.Nat.{ℕ, zero, suc, _+_, _-_, _*_, _%_, _^_, _≤_, _<_}
 use native.Mathlib.Nat.{mod-mod, lt-of-le-of-lt, mod-le}
 use native.Mathlib.Omega.{arith}
@@ -29,10 +29,11 @@ use Rattle.graph.specs.Insert.{start}
 use Rattle.fold.specs.Shape.{sameType, isAny, refinedOf, refinedAt}
 use Rattle.plan.specs.Plan as plan
 use Rattle.plan.specs.Single.{View, same, source, viewFrom, viewAt, isWide, truncatedPlan, modularOf, modularPlan}
-use Rattle.meaning.specs.Value.{Env, size, ofType, valued, andThen, unaryMeans, binaryMeans, operationMeans, value}
+use Rattle.meaning.specs.Value.{size, ofType, valued, andThen, unaryMeans, binaryMeans}
+use Rattle.meaning.proofs.Worlds.{World, operationMeans, value}
 use Rattle.meaning.proofs.Constants.{low-valued, pattern}
 use Rattle.meaning.proofs.Answers.{by-test, of-any, by-given}
-use Rattle.meaning.proofs.Values.{typed-is, typed-of, then-is}
+use Rattle.meaning.proofs.Values.{typed-is, then-is, then-typed}
 use Rattle.meaning.proofs.Invariant.{storedTyped, Refined, Inv, inv-below, inv-step, resolve-leads}
 use Rattle.meaning.proofs.Plans.{Covers, Claim}
 use Rattle.meaning.proofs.Views.{same-type, value-small, value-pattern, truncate-valued, seen}
@@ -162,28 +163,24 @@ module _ (w : ℕ) (wide : w ≤ 128) (p q y : ℕ) (lp : p < 2 ^ 128) (lq : q <
 
 -- ---- through Refines
 
-module _ {ρ : Env} {g : List ℕ} (i : Inv ρ g) where
+module _ {ρ : World} {g : List ℕ} (i : Inv ρ g) where
   -- a Refine has its source's value
-  pub refine-value : (n : ℕ) → n < countOf g → (p : ℕ) → refinedAt g n ≡ some p → (p < n) × (value ρ g n ≡ value ρ g p)
+  pub refine-value : (n : ℕ) → n < countOf g → (p : ℕ) → refinedAt g n ≡ some p → (p < n) × (ρ .sure → value ρ g n ≡ value ρ g p)
   unfolding refinedAt
   refine-value n l p e = by (operationAt g n) refl e
     where
-      own : (j : ℕ) → operationAt g n ≡ node.refine j → value ρ g n ≡ value ρ g j
-      own j q =
+      own : (j : ℕ) → operationAt g n ≡ node.refine j → ρ .sure → value ρ g n ≡ value ρ g j
+      own j q sure =
           inv-step i n l ∙ ap (λ (o : Op). operationMeans ρ (typeAt g n) o (value ρ g)) q
-          ∙ held (value ρ g j) (λ x m. (subst (Refined ρ g (typeAt g n)) q (i .refined n l)) x m)
-        where
-          held : (a : Option ℕ) → ((x : ℕ) → a ≡ some x → x < size (typeAt g n)) → andThen a (ofType (typeAt g n)) ≡ a
-          held none h = refl
-          held (some x) h = typed-of (typeAt g n) x (h x refl)
+          ∙ then-typed (typeAt g n) (value ρ g j) (λ x m. (subst (Refined (value ρ g) (typeAt g n)) q (i .refined n l sure)) x m)
 
-      by : (o : Op) → operationAt g n ≡ o → refinedOf o ≡ some p → (p < n) × (value ρ g n ≡ value ρ g p)
+      by : (o : Op) → operationAt g n ≡ o → refinedOf o ≡ some p → (p < n) × (ρ .sure → value ρ g n ≡ value ρ g p)
       by (node.constant c) q r = absurd (none-some r)
       by (node.input j) q r = absurd (none-some r)
       by (node.refine j) q r =
           let s : j ≡ p = some-is r in
           let b : start (node.refine j) ≤ n = subst (λ (o : Op). start o ≤ n) q (inv-below i n l) in
-          (omega arith, own j q ∙ ap (value ρ g) s)
+          (omega arith, λ sure. own j q sure ∙ ap (value ρ g) s)
       by (node.effect j) q r = absurd (none-some r)
       by (node.slice j o w) q r = absurd (none-some r)
       by (node.concat j k w) q r = absurd (none-some r)
@@ -192,15 +189,15 @@ module _ {ρ : Env} {g : List ℕ} (i : Inv ρ g) where
 
   -- a view has the value of the node that it was asked for
   abbrev Seen : ScalarType → ℕ → View → Type 0
-  Seen t n (same p) = (p < countOf g) × (typeAt g p ≡ t) × (value ρ g n ≡ value ρ g p)
-  Seen t n (source s) = (s < countOf g) × (value ρ g n ≡ value ρ g s)
+  Seen t n (same p) = (p < countOf g) × (typeAt g p ≡ t) × (ρ .sure → value ρ g n ≡ value ρ g p)
+  Seen t n (source s) = (s < countOf g) × (ρ .sure → value ρ g n ≡ value ρ g s)
 
-  further : (t : ScalarType) (n p : ℕ) (v : View) → value ρ g n ≡ value ρ g p → Seen t p v → Seen t n v
-  further t n p (same q) e d = (d .0, d .1, e ∙ d .2)
-  further t n p (source q) e d = (d .0, e ∙ d .1)
+  further : (t : ScalarType) (n p : ℕ) (v : View) → (ρ .sure → value ρ g n ≡ value ρ g p) → Seen t p v → Seen t n v
+  further t n p (same q) e d = (d .0, d .1, λ sure. e sure ∙ d .2 sure)
+  further t n p (source q) e d = (d .0, λ sure. e sure ∙ d .1 sure)
 
   view-from : (t : ScalarType) (k n : ℕ) → n < countOf g → Seen t n (viewFrom g t k n)
-  view-from t zero n l = (l, refl)
+  view-from t zero n l = (l, λ sure. refl)
   view-from t (suc k) n l =
       by-given (Seen t n) (refinedAt g n)
       (λ p e.
@@ -208,7 +205,7 @@ module _ {ρ : Env} {g : List ℕ} (i : Inv ρ g) where
       let b : p < countOf g = (let q = d .0 in omega arith) in
       by-test (Seen t n) (sameType (typeAt g p) t) (λ q. (b, same-type (typeAt g p) t q, d .1))
       (λ q. further t n p (viewFrom g t k p) (d .1) (view-from t k p b)))
-      (λ e. (l, refl))
+      (λ e. (l, λ sure. refl))
 
 -- ---- modular
 
@@ -217,7 +214,7 @@ modular-typed o w =
     let same : both (sameType (ty.Bits w) (ty.Bits w)) (sameType (ty.Bits w) (ty.Bits w)) ≡ true = rw (eq-eqb w w refl) in
     of-any (λ o. storedTyped o (ty.Bits w) (ty.Bits w) (ty.Bits w) ≡ true) modularOps (same, (same, (same, (same, (same, (same, tt)))))) o
 
-module _ {ρ : Env} {g : List ℕ} (i : Inv ρ g) (w : ℕ) (wide : w ≤ 128) where
+module _ {ρ : World} {g : List ℕ} (i : Inv ρ g) (w : ℕ) (wide : w ≤ 128) where
   truncated-value : (a : ℕ) → unaryMeans (ty.Bits w) (un.Truncate w) (some a) ≡ some (a % 2 ^ w)
   truncated-value a = truncate-valued w a ∙ low-valued w a
 
@@ -249,11 +246,11 @@ module _ {ρ : Env} {g : List ℕ} (i : Inv ρ g) (w : ℕ) (wide : w ≤ 128) w
         ∙ (λ k. binaryMeans (ty.Bits w) o (truncated-value (c .0) k) (truncated-value (d .0) k))
         ∙ ap (λ (k : Option ℕ). andThen k (ofType (ty.Bits w))) f ∙ low-valued w y ∙ ap some (sym is)
 
-    truncated-good : (t : Option ℕ) → t ≡ value ρ g s → Claim ρ g (ty.Bits w) (andThen t (valued (ty.Bits w))) (plan.truncated w o a b)
-    truncated-good t q = (wide, la, lb, refl, modular-typed o w m, λ x r. low-covers x (ap (λ (k : Option ℕ). andThen k (valued (ty.Bits w))) (sym q) ∙ r))
+    truncated-good : (t : Option ℕ) → (ρ .sure → t ≡ value ρ g s) → Claim ρ g (ty.Bits w) (andThen t (valued (ty.Bits w))) (plan.truncated w o a b)
+    truncated-good t q = (wide, la, lb, refl, modular-typed o w m, λ sure x r. low-covers x (ap (λ (k : Option ℕ). andThen k (valued (ty.Bits w))) (sym (q sure)) ∙ r))
 
   module _ (v : ℕ) (l : v < countOf g) where
-    source-claim : (s : ℕ) → s < countOf g → value ρ g v ≡ value ρ g s → isWide (typeAt g s) w ≡ true → (o : Op) → operationAt g s ≡ o
+    source-claim : (s : ℕ) → s < countOf g → (ρ .sure → value ρ g v ≡ value ρ g s) → isWide (typeAt g s) w ≡ true → (o : Op) → operationAt g s ≡ o
         → Claim ρ g (ty.Bits w) (andThen (value ρ g v) (valued (ty.Bits w))) (truncatedPlan w o)
     source-claim s b q big (node.constant c) e = tt
     source-claim s b q big (node.input j) e = tt
@@ -273,12 +270,12 @@ module _ {ρ : Env} {g : List ℕ} (i : Inv ρ g) (w : ℕ) (wide : w ≤ 128) w
         by : (r : View) → Seen i (ty.Bits w) v r → Claim ρ g (ty.Bits w) (andThen (value ρ g v) (valued (ty.Bits w))) (modularOf g w r)
         by (same p) d =
             let a = resolve-leads ρ g i p (d .0) in
-            let small : (x : ℕ) → value ρ g v ≡ some x → x < 2 ^ w
-            = λ x m. subst (λ (t : ScalarType). x < size t) (d .1) (value-small i p (d .0) x (sym (d .2) ∙ m)) in
+            let small : ρ .sure → (x : ℕ) → value ρ g v ≡ some x → x < 2 ^ w
+            = λ sure x m. subst (λ (t : ScalarType). x < size t) (d .1) (value-small i p (d .0) x (sym (d .2 sure) ∙ m)) in
             record {
               here = a .here;
               type = a .type ∙ d .1;
-              means = λ x q. a .means ∙ sym (d .2) ∙ seen i v l (ty.Bits w) small x q;
+              means = λ sure x q. a .means ∙ sym (d .2 sure) ∙ seen i v l (ty.Bits w) (small sure) x q;
             }
         by (source s) d =
             by-test (Claim ρ g (ty.Bits w) (andThen (value ρ g v) (valued (ty.Bits w)))) (isWide (typeAt g s) w)

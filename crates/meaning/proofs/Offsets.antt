@@ -35,7 +35,8 @@ use Rattle.plan.specs.Plan.{Plan}
 use Rattle.plan_binary.specs.Binary.{offsetCompared, offsetTyped, offsetPlan, mergedPlan, lessMore, sumPlan}
 use Rattle.build.specs.Build.{binary}
 use Rattle.native.specs.Typing.{isNumber, sameTypes, arithmetic}
-use Rattle.meaning.specs.Value.{Env, size, ofType, andThen, binaryMeans, value}
+use Rattle.meaning.specs.Value.{size, ofType, andThen, binaryMeans}
+use Rattle.meaning.proofs.Worlds.{World, value}
 use Rattle.meaning.proofs.Modular.{Residues, sum, difference, checked, checked-is, alike, in-bits, sub-low}
 use Rattle.meaning.proofs.Answers.{binary-is, of-any, by-test, Each, each-none, each-some, each-provided, each-given, each-or}
 use Rattle.meaning.proofs.Invariant.{storedTyped, Inv, inv-width}
@@ -95,12 +96,12 @@ module _ (t : ScalarType) (a b : ℕ) where
         ),
       )
 
-module _ {ρ : Env} {g : List ℕ} (i : Inv ρ g) (t : ScalarType) (o : Binary) (l r : ℕ) (k : Callable g (binary t o l r)) where
+module _ {ρ : World} {g : List ℕ} (i : Inv ρ g) (t : ScalarType) (o : Binary) (l r : ℕ) (k : Callable g (binary t o l r)) where
   pub swapped-claim : isAny commutative o ≡ true → Claim ρ g t (binaryMeans t o (value ρ g l) (value ρ g r)) (plan.binary t o r l)
   swapped-claim m = (
     (k .0, k .2, k .1, typed-swap (typeAt g l) (typeAt g r) t o m (k .3)),
     refl,
-    λ x e.
+    λ sure x e.
         let s = operands ρ g t o l r x e in
         (λ z. binaryMeans t o (s .right z) (s .left z)) ∙ ap (λ (q : Option ℕ). andThen q (ofType t)) (value-swap t (s .x) (s .y) o m) ∙ s .means,
   )
@@ -164,18 +165,19 @@ sub-merges t n wide x c d v k = merges _-ℤ_ difference residue-sub less-assoc 
 -- ---- a sum or a difference by a constant, as a node
 
 -- an operator with the types of sums
-abbrev Arithmetic : Binary → Type 0
+abbrev pub Arithmetic : Binary → Type 0
 Arithmetic o = (a b t : ScalarType) → storedTyped o a b t ≡ arithmetic a b t
 
 -- the base of a chain of type t, and the chain's values by it
-record Link (ρ : Env) (g : List ℕ) (n : ℕ) (c : Chain) (t : ScalarType) : Type 0 where
-  here : c .base < countOf g
-  type : typeAt g (c .base) ≡ t
-  small : c .value < size t
-  means : (y : ℕ) → value ρ g n ≡ some y → (x : ℕ) × (value ρ g (c .base) ≡ some x) × (evaluateBinary (c .op) t x (c .value) ≡ some y)
+pub record Link (ρ : World) (g : List ℕ) (n : ℕ) (c : Chain) (t : ScalarType) : Type 0 where
+  pub here : c .base < countOf g
+  pub type : typeAt g (c .base) ≡ t
+  pub small : c .value < size t
+  pub means : (y : ℕ) → value ρ g n ≡ some y → (x : ℕ) × (value ρ g (c .base) ≡ some x) × (evaluateBinary (c .op) t x (c .value) ≡ some y)
 
-module _ {ρ : Env} {g : List ℕ} (i : Inv ρ g) where
-  link : (n : ℕ) (c : Chain) (t : ScalarType) → n < countOf g → typeAt g n ≡ t → chainAt g n ≡ some c → Arithmetic (c .op) → Link ρ g n c t
+module _ {ρ : World} {g : List ℕ} (i : Inv ρ g) where
+  -- a node that is a sum or a difference by a constant
+  pub link : (n : ℕ) (c : Chain) (t : ScalarType) → n < countOf g → typeAt g n ≡ t → chainAt g n ≡ some c → Arithmetic (c .op) → Link ρ g n c t
   link n c t l q e a =
       let s = linked g n c e in
       let h = chain-here i n l c s in
@@ -189,7 +191,7 @@ module _ {ρ : Env} {g : List ℕ} (i : Inv ρ g) where
 
 -- ---- a remainder or a sum by a constant
 
-module _ {ρ : Env} {g : List ℕ} (i : Inv ρ g) (t : ScalarType) (l r c : ℕ) (lit : literal g r ≡ some c) where
+module _ {ρ : World} {g : List ℕ} (i : Inv ρ g) (t : ScalarType) (l r c : ℕ) (lit : literal g r ≡ some c) where
   abbrev means : Binary → Option ℕ
   means o = binaryMeans t o (value ρ g l) (value ρ g r)
 
@@ -203,7 +205,7 @@ module _ {ρ : Env} {g : List ℕ} (i : Inv ρ g) (t : ScalarType) (l r c : ℕ)
     k .0,
     here,
     typed,
-    λ x e.
+    λ sure x e.
         let s = operands ρ g t o l r x e in
         let q = law (s .x) (s .left) in
         let d : c ≡ s .y = some-is (sym (literal-value ρ g i r c (k .2) lit) ∙ s .right) in
@@ -294,19 +296,19 @@ equality-value t a b x y e =
     (λ z. some (reduced t (fromBool (e z))), (λ z. some (reduced t (fromBool (not (e z)))), tt))
 
 -- an operator by a constant of Bits(w), and the constant that its base is compared with
-abbrev Shifts : Binary → ℕ → ℕ → ℕ → ℕ → Type 0
+abbrev pub Shifts : Binary → ℕ → ℕ → ℕ → ℕ → Type 0
 Shifts o w c b v = (x y : ℕ) → x < 2 ^ w → evaluateBinary o (ty.Bits w) x c ≡ some y → eqb y b ≡ eqb x (v % 2 ^ w)
 
 module _ (w c b : ℕ) (wide : w ≤ 128) (lc : c < 2 ^ w) (lb : b < 2 ^ w) where
-  add-shifts : Shifts bi.Add w c b (u128.wrapping-sub b c)
+  pub add-shifts : Shifts bi.Add w c b (u128.wrapping-sub b c)
   unfolding evaluateBinary
   add-shifts x y lx e = (λ z. eqb (sym (some-is e) z) b) ∙ add-compared w x c b wide lx lc lb
 
-  sub-shifts : Shifts bi.Sub w c b (u128.wrapping-add b c)
+  pub sub-shifts : Shifts bi.Sub w c b (u128.wrapping-add b c)
   unfolding evaluateBinary
   sub-shifts x y lx e = (λ z. eqb (sym (some-is e) z) b) ∙ sub-compared w x c b wide lx lc lb
 
-module _ {ρ : Env} {g : List ℕ} (i : Inv ρ g) (t : ScalarType) (o : Binary) (l r : ℕ) (k : Callable g (binary t o l r)) where
+module _ {ρ : World} {g : List ℕ} (i : Inv ρ g) (t : ScalarType) (o : Binary) (l r : ℕ) (k : Callable g (binary t o l r)) where
   abbrev asked : Binary → Option ℕ
   asked u = binaryMeans t u (value ρ g l) (value ρ g r)
 
@@ -353,7 +355,7 @@ module _ {ρ : Env} {g : List ℕ} (i : Inv ρ g) (t : ScalarType) (o : Binary) 
           k .0,
           s .here,
           (λ z. storedTyped o ((s .type ∙ sym tl) z) (sym tr z) t) ∙ k .3,
-          λ x q.
+          λ sure x q.
               let d = operands ρ g t o l r x q in
               let h = s .means (d .x) (d .left) in
               let y : b ≡ d .y = some-is (sym (literal-value ρ g i r b (k .2) lit) ∙ d .right) in

@@ -22,7 +22,8 @@ use Rattle.bitfield.specs.Bitfield.{Mask}
 use Rattle.build.specs.Rest.{restPlan}
 use Rattle.build.specs.Build.{Call, identity, unary, modular, binary, slice, concat, Prog, call, constantThen, answer, tail, byConstant, planProg, maskProg, attemptProg, firstProg}
 use Rattle.native.specs.Typing.{concatTyped}
-use Rattle.meaning.specs.Value.{Env, size, valued, andThen, unaryMeans, binaryMeans, sliceMeans, concatMeans, operationMeans, value}
+use Rattle.meaning.specs.Value.{size, valued, andThen, unaryMeans, binaryMeans, sliceMeans, concatMeans}
+use Rattle.meaning.proofs.Worlds.{World, operationMeans, value}
 use Rattle.meaning.proofs.Values.{then-is}
 use Rattle.meaning.proofs.Invariant.{shiftable, storedTyped, Inv, ext-here, ext-type, ext-value, Storable, Kept, Found}
 use Rattle.meaning.proofs.Constants.{constant-means, constant-storable}
@@ -57,56 +58,56 @@ pub record Number (s : ScalarType) (v : ℕ) : Type 0 where
 pub bits-number : {w : ℕ} → w ≤ 128 → (v : ℕ) → Number (ty.Bits w) v
 bits-number {w} wide v = record { width = wide; small = mod-lt v (pow-pos w) }
 
-module _ (ρ : Env) (g : List ℕ) (t : ScalarType) (w : Option ℕ) where
+module _ (ρ : World) (g : List ℕ) (t : ScalarType) (w : Option ℕ) where
   -- another builder's answer
   abbrev pub Tail : Call → Type 0
-  Tail c = Callable g c × (typeOf c ≡ t) × Covers w (meaning (value ρ g) c)
+  Tail c = Callable g c × (typeOf c ≡ t) × (ρ .sure → Covers w (meaning (value ρ g) c))
 
   -- a constant of type s, then an operation on node n and it
   abbrev pub ByConstant : ScalarType → ℕ → ScalarType → Binary → ℕ → Type 0
   ByConstant s v t′ o n =
       Number s v × (t′ ≡ t) × (typeWidth t′ ≤ 128) × (n < countOf g) × (storedTyped o (typeAt g n) s t′ ≡ true)
-      × Covers w (binaryMeans t′ o (value ρ g n) (some (reduced s v)))
+      × (ρ .sure → Covers w (binaryMeans t′ o (value ρ g n) (some (reduced s v))))
 
   -- what a plan says of the type t and the value w that are asked for
   abbrev pub Claim : Plan → Type 0
   Claim (plan.give n) = Found ρ t w n g
   Claim plan.stop = Unit {0}
-  Claim (plan.constant s v) = (s ≡ t) × Number s v × Covers w (some (reduced s v))
-  Claim (plan.add s r o) = (s ≡ t) × Storable ρ g s r o × Covers w (operationMeans ρ s o (value ρ g))
+  Claim (plan.constant s v) = (s ≡ t) × Number s v × (ρ .sure → Covers w (some (reduced s v)))
+  Claim (plan.add s r o) = (s ≡ t) × Storable ρ g s r o × (ρ .sure → Covers w (operationMeans ρ s o (value ρ g)))
   Claim (plan.identity s n) = Tail (identity s n)
   Claim (plan.unary s o n) = Tail (unary s o n)
   Claim (plan.binary s o l r) = Tail (binary s o l r)
   Claim (plan.slice n o v) = Tail (slice n o v)
   Claim (plan.sliceIdentity n o v s) =
-      Callable g (slice n o v) × (s ≡ t) × (typeWidth s ≤ 128) × Covers w (andThen (sliceMeans (ty.Bits v) o (value ρ g n)) (valued s))
+      Callable g (slice n o v) × (s ≡ t) × (typeWidth s ≤ 128) × (ρ .sure → Covers w (andThen (sliceMeans (ty.Bits v) o (value ρ g n)) (valued s)))
   Claim (plan.sliceShift n v s c) =
       Callable g (slice n 0 v) × (s ≡ t) × (typeWidth s ≤ 128) × Number ty.Integer c × (shiftable (ty.Bits v) s ≡ true)
-      × Covers w (binaryMeans s bi.ShiftLeft (sliceMeans (ty.Bits v) 0 (value ρ g n)) (some (reduced ty.Integer c)))
+      × (ρ .sure → Covers w (binaryMeans s bi.ShiftLeft (sliceMeans (ty.Bits v) 0 (value ρ g n)) (some (reduced ty.Integer c))))
   Claim (plan.constantBinary s v t′ o n) = ByConstant s v t′ o n
   Claim (plan.andOr s n m v) =
       Callable g (binary s bi.And n m) × (s ≡ t) × Number s v × (storedTyped bi.Or s s s ≡ true)
-      × Covers w (binaryMeans s bi.Or (binaryMeans s bi.And (value ρ g n) (value ρ g m)) (some (reduced s v)))
+      × (ρ .sure → Covers w (binaryMeans s bi.Or (binaryMeans s bi.And (value ρ g n) (value ρ g m)) (some (reduced s v))))
   Claim (plan.truncated v o l r) =
       (v ≤ 128) × (l < countOf g) × (r < countOf g) × (ty.Bits v ≡ t) × (storedTyped o (ty.Bits v) (ty.Bits v) (ty.Bits v) ≡ true)
-      × Covers w
-      (binaryMeans (ty.Bits v) o (unaryMeans (ty.Bits v) (un.Truncate v) (value ρ g l)) (unaryMeans (ty.Bits v) (un.Truncate v) (value ρ g r)))
+      × (ρ .sure → Covers w
+      (binaryMeans (ty.Bits v) o (unaryMeans (ty.Bits v) (un.Truncate v) (value ρ g l)) (unaryMeans (ty.Bits v) (un.Truncate v) (value ρ g r))))
   Claim (plan.splitConcat l o v h u s) =
       Callable g (slice l o v) × Callable g (slice h 0 u) × (s ≤ 128) × (concatTyped (ty.Bits u) (ty.Bits v) v s ≡ true) × (ty.Bits s ≡ t)
-      × Covers w (concatMeans (ty.Bits s) v (sliceMeans (ty.Bits u) 0 (value ρ g h)) (sliceMeans (ty.Bits v) o (value ρ g l)))
+      × (ρ .sure → Covers w (concatMeans (ty.Bits s) v (sliceMeans (ty.Bits u) 0 (value ρ g h)) (sliceMeans (ty.Bits v) o (value ρ g l))))
 
 -- ---- claims of what a builder does first
 
-module _ (ρ : Env) (g : List ℕ) (t : ScalarType) (w : Option ℕ) where
+module _ (ρ : World) (g : List ℕ) (t : ScalarType) (w : Option ℕ) where
   -- a masked operation: And of the base and the mask, then the operation on that and the literal
   abbrev pub Masking : Mask → Type 0
   Masking m =
       Number (m .type) (m .mask) × Number (m .type) (m .literal) × (m .base < countOf g)
       × (storedTyped bi.And (typeAt g (m .base)) (m .type) (m .type) ≡ true) × (m .result ≡ t) × (typeWidth (m .result) ≤ 128)
       × (storedTyped (m .op) (m .type) (m .type) (m .result) ≡ true)
-      × Covers w
+      × (ρ .sure → Covers w
       (binaryMeans (m .result) (m .op) (binaryMeans (m .type) bi.And (value ρ g (m .base)) (some (reduced (m .type) (m .mask))))
-      (some (reduced (m .type) (m .literal))))
+      (some (reduced (m .type) (m .literal)))))
 
   -- a fold that may come to None
   abbrev pub Trying : Attempt → Type 0
@@ -120,20 +121,20 @@ module _ (ρ : Env) (g : List ℕ) (t : ScalarType) (w : Option ℕ) where
 
 -- ---- and that they make their programs good
 
-module _ (ρ : Env) (t : ScalarType) (w : Option ℕ) where
-  answer-good : (g h : List ℕ) (n : ℕ) (t′ : ScalarType) (w′ : Option ℕ) → t′ ≡ t → Covers w w′ → Found ρ t′ w′ n h → Found ρ t w n h
-  answer-good g h n t′ w′ e c f = record { here = f .here; type = f .type ∙ e; means = λ x q. f .means x (c x q) }
+module _ (ρ : World) (t : ScalarType) (w : Option ℕ) where
+  answer-good : (g h : List ℕ) (n : ℕ) (t′ : ScalarType) (w′ : Option ℕ) → t′ ≡ t → (ρ .sure → Covers w w′) → Found ρ t′ w′ n h → Found ρ t w n h
+  answer-good g h n t′ w′ e c f = record { here = f .here; type = f .type ∙ e; means = λ y x q. f .means y x (c y x q) }
 
   tail-good : (g : List ℕ) (c : Call) → Tail ρ g t w c → Good ρ t w (tail c) g
   tail-good g c k = (k .0, λ n h a f. answer-good g h n (typeOf c) (meaning (value ρ g) c) (k .1) (k .2) f)
 
   -- a constant, and what follows it
   pub constant-good : (g : List ℕ) (s : ScalarType) (v : ℕ) (k : ℕ → Prog) → Number s v
-      → ((n : ℕ) (h : List ℕ) → Kept ρ g h → n < countOf h → typeAt h n ≡ s → value ρ h n ≡ some (reduced s v) → Good ρ t w (k n) h)
+      → ((n : ℕ) (h : List ℕ) → Kept ρ g h → n < countOf h → typeAt h n ≡ s → (ρ .sure → value ρ h n ≡ some (reduced s v)) → Good ρ t w (k n) h)
       → Good ρ t w (constantThen s v k) g
   constant-good g s v k m r = (
     constant-storable ρ g s (reduced s v) (m .width) (m .small),
-    λ n h a f. r n h a (f .here) (f .type) (f .means (reduced s v) (constant-means ρ g s (reduced s v) (m .width) (m .small))),
+    λ n h a f. r n h a (f .here) (f .type) (λ y. f .means y (reduced s v) (constant-means ρ g s (reduced s v) (m .width) (m .small))),
   )
 
   pub by-constant-good : (g : List ℕ) (s : ScalarType) (v : ℕ) (t′ : ScalarType) (o : Binary) (n : ℕ) → ByConstant ρ g t w s v t′ o n
@@ -144,14 +145,14 @@ module _ (ρ : Env) (t : ScalarType) (w : Option ℕ) where
       tail-good h (binary t′ o n c) (
         (k .2, ext-here (a .grows) n (k .3), here, (λ i. storedTyped o (ext-type (a .grows) n (k .3) i) (type i) t′) ∙ k .4),
         k .1,
-        λ x e. (λ i. binaryMeans t′ o (ext-value ρ (a .grows) n (k .3) i) (means i)) ∙ k .5 x e,
+        λ y x e. (λ i. binaryMeans t′ o (ext-value ρ (a .grows) n (k .3) i) (means y i)) ∙ k .5 y x e,
       ))
 
   pub perform-good : (g : List ℕ) → Inv ρ g → (p : Plan) → Claim ρ g t w p → Good ρ t w (planProg p) g
   perform-good g i (plan.give n) k = k
   perform-good g i plan.stop k = tt
   perform-good g i (plan.constant s v) k =
-      constant-good g s v answer (k .1) (λ n h a here type means. record { here = here; type = type ∙ k .0; means = λ x e. means ∙ k .2 x e })
+      constant-good g s v answer (k .1) (λ n h a here type means. record { here = here; type = type ∙ k .0; means = λ y x e. means y ∙ k .2 y x e })
   perform-good g i (plan.add s r o) k = (k .1, λ n h a f. answer-good g h n s (operationMeans ρ s o (value ρ g)) (k .0) (k .2) f)
   perform-good g i (plan.identity s n) k = tail-good g (identity s n) k
   perform-good g i (plan.unary s o n) k = tail-good g (unary s o n) k
@@ -161,7 +162,7 @@ module _ (ρ : Env) (t : ScalarType) (w : Option ℕ) where
     k .0,
     λ m h a f.
         tail-good h (identity s m)
-        ((k .2, f .here), k .1, λ x e. then-covers (sliceMeans (ty.Bits v) o (value ρ g n)) (value ρ h m) (valued s) (f .means) x (k .3 x e)),
+        ((k .2, f .here), k .1, λ y x e. then-covers (sliceMeans (ty.Bits v) o (value ρ g n)) (value ρ h m) (valued s) (f .means y) x (k .3 y x e)),
   )
   perform-good g i (plan.sliceShift n v s c) k = (
     k .0,
@@ -172,9 +173,9 @@ module _ (ρ : Env) (t : ScalarType) (w : Option ℕ) where
           k .2,
           f .here,
           rw (f .type, k .4) refl,
-          λ x e.
-              binary-covers s bi.ShiftLeft (sliceMeans (ty.Bits v) 0 (value ρ g n)) (some (reduced ty.Integer c)) (value ρ h m) (some (reduced ty.Integer c)) (f .means)
-              (λ y q. q) x (k .5 x e),
+          λ y x e.
+              binary-covers s bi.ShiftLeft (sliceMeans (ty.Bits v) 0 (value ρ g n)) (some (reduced ty.Integer c)) (value ρ h m) (some (reduced ty.Integer c)) (f .means y)
+              (λ z q. q) x (k .5 y x e),
         ),
   )
   perform-good g i (plan.constantBinary s v t′ o n) k = by-constant-good g s v t′ o n k
@@ -187,9 +188,9 @@ module _ (ρ : Env) (t : ScalarType) (w : Option ℕ) where
           k .0 .0,
           f .here,
           ap (λ (q : ScalarType). storedTyped bi.Or q s s) (f .type) ∙ k .3,
-          λ x e.
-              binary-covers s bi.Or (binaryMeans s bi.And (value ρ g n) (value ρ g m)) (some (reduced s v)) (value ρ h c) (some (reduced s v)) (f .means) (λ y q. q) x
-              (k .4 x e),
+          λ y x e.
+              binary-covers s bi.Or (binaryMeans s bi.And (value ρ g n) (value ρ g m)) (some (reduced s v)) (value ρ h c) (some (reduced s v)) (f .means y) (λ z q. q) x
+              (k .4 y x e),
         ),
   )
   perform-good g i (plan.truncated v o l r) k =
@@ -206,10 +207,10 @@ module _ (ρ : Env) (t : ScalarType) (w : Option ℕ) where
                   (λ z. storedTyped o ((ext-type (q .grows) a (f .here) ∙ f .type) z) (d .type z) (ty.Bits v)) ∙ k .4,
                 ),
                 k .3,
-                λ x e.
+                λ sure x e.
                     binary-covers (ty.Bits v) o (unaryMeans (ty.Bits v) (un.Truncate v) (value ρ g l)) (unaryMeans (ty.Bits v) (un.Truncate v) (value ρ g r)) (value ρ j a)
-                    (value ρ j b) (λ y z. ext-value ρ (q .grows) a (f .here) ∙ f .means y z)
-                    (λ y z. d .means y ((λ c. unaryMeans (ty.Bits v) (un.Truncate v) (ext-value ρ (p .grows) r (k .2) c)) ∙ z)) x (k .5 x e),
+                    (value ρ j b) (λ y z. ext-value ρ (q .grows) a (f .here) ∙ f .means sure y z)
+                    (λ y z. d .means sure y ((λ c. unaryMeans (ty.Bits v) (un.Truncate v) (ext-value ρ (p .grows) r (k .2) c)) ∙ z)) x (k .5 sure x e),
               ),
         ),
       )
@@ -227,10 +228,10 @@ module _ (ρ : Env) (t : ScalarType) (w : Option ℕ) where
               (λ z. concatTyped (d .type z) ((ext-type (q .grows) a (f .here) ∙ f .type) z) v s) ∙ k .3,
             ),
             k .4,
-            λ x e.
+            λ sure x e.
                 concat-covers (ty.Bits s) v (sliceMeans (ty.Bits u) 0 (value ρ g h)) (sliceMeans (ty.Bits v) o (value ρ g l)) (value ρ m b) (value ρ m a)
-                (λ y z. d .means y ((λ c. sliceMeans (ty.Bits u) 0 (ext-value ρ (p .grows) h (k .1 .1) c)) ∙ z))
-                (λ y z. ext-value ρ (q .grows) a (f .here) ∙ f .means y z) x (k .5 x e),
+                (λ y z. d .means sure y ((λ c. sliceMeans (ty.Bits u) 0 (ext-value ρ (p .grows) h (k .1 .1) c)) ∙ z))
+                (λ y z. ext-value ρ (q .grows) a (f .here) ∙ f .means sure y z) x (k .5 sure x e),
           ),
     ),
   )
@@ -253,10 +254,10 @@ module _ (ρ : Env) (t : ScalarType) (w : Option ℕ) where
               k .5,
               f .here,
               ap (λ (s : ScalarType). storedTyped (m .op) s (m .type) (m .result)) (f .type) ∙ k .6,
-              λ x e.
+              λ sure x e.
                   binary-covers (m .result) (m .op) (binaryMeans (m .type) bi.And (value ρ g (m .base)) (some (reduced (m .type) (m .mask))))
                   (some (reduced (m .type) (m .literal))) (value ρ j n) (some (reduced (m .type) (m .literal)))
-                  (λ y q. f .means y ((λ z. binaryMeans (m .type) bi.And (ext-value ρ (a .grows) (m .base) (k .2) z) (means z)) ∙ q)) (λ y q. q) x (k .7 x e),
+                  (λ y q. f .means sure y ((λ z. binaryMeans (m .type) bi.And (ext-value ρ (a .grows) (m .base) (k .2) z) (means sure z)) ∙ q)) (λ y q. q) x (k .7 sure x e),
             ),
       ))
 

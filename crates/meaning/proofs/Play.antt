@@ -1,14 +1,15 @@
--- Demand 3 of every list of calls, where the builders are sound; and the invariant of its graph, whatever the values. Assumes nothing.
+-- Of every list of calls, where the builders are sound: the invariant of its graph, and every line right where the conditions are met. Assumes nothing.
 use mathlib.Core.Path.{_≡_, refl, sym, ap, _∙_, subst}
 use mathlib.Core.Bool.{Bool, true, false, cond, false≢true}
 use mathlib.Core.List.{List, [], _∷_, _++_}
+use mathlib.Core.Logic.{inl, inr, ⊎-elim}
 use mathlib.Core.Option.{Option, none, some}
 use Prim.Native.Nat.{ℕ, _^_, _≤_, _<_}
-use native.Mathlib.Nat.{mod-lt, le-refl, lt-irrefl}
+use native.Mathlib.Nat.{mod-lt, le-refl}
 use native.Mathlib.Omega.{arith}
 use borrow.Author.Tests.{eqb-true, ltb-true, leb-true, le-leb}
 use lib.Dec.{eqb, ltb, leb, lit<}
-use lib.ListN.{getD, replicate}
+use lib.ListN.{replicate}
 use lib.Pow.{pow-pos}
 use lib.Signed.{leZ}
 use Rattle.word.specs.Value.{signed}
@@ -19,7 +20,7 @@ use Rattle.range.specs.declared.ScalarType.the-variants as ty
 use Rattle.range.proofs.Sound.{tests, at-most}
 use Rattle.range.proofs.Answers.{none-some, some-is}
 use Rattle.range.proofs.Valid.{Valid, type-valid}
-use Rattle.evaluate.specs.Evaluate.{reduced}
+use Rattle.evaluate.specs.Evaluate.{fromBool, reduced}
 use Rattle.evaluate.specs.Operator.{typeWidth, unaryWidth}
 use Rattle.evaluate.specs.declared.Binary.{Binary}
 use Rattle.evaluate.specs.declared.Binary.the-variants as bi
@@ -31,58 +32,58 @@ use Rattle.graph.specs.Insert as graph
 use Rattle.graph.specs.Insert.{Reply, made, constantInterval, interned, appended, foundOr, inserted}
 use Rattle.graph.proofs.Nodes.{appended-made, appended-full}
 use Rattle.fold.specs.Shape.{sameType}
+use Rattle.assume.specs.Refine as refine
+use Rattle.assume.specs.Refine.{Outcome}
+use Rattle.assume.specs.Assume.{assumedGuard}
 use Rattle.build.specs.Build as build
 use Rattle.build.specs.Build.{Out, out}
-use Rattle.retain.specs.Retain.{isKept, isChoice, newId, retained}
+use Rattle.retain.specs.Retain.{isChoice, retained}
 use Rattle.retain.proofs.Operands.{Choice, choice-facts}
-use Rattle.retain.proofs.Moving.{ids-at}
-use Rattle.retain.proofs.Laws.{id-kept}
-use Rattle.native.specs.Call as calls
-use Rattle.native.specs.Call.{Response, Called, refusal, finished, isBoolValue, isDeclared, constantInGraph, constantCall, inputInGraph, inputCall, effectInGraph, effectCall}
+use Rattle.native.specs.Call.{Called, refusal, finished, isBoolValue, isDeclared, constantInGraph, constantCall, inputInGraph, inputCall, effectInGraph, effectCall}
 use Rattle.native.specs.Request as request
 use Rattle.native.specs.Request.{Request, UNITS, allUpTo, allBelow, widths, ids, typed, worked, madeOf, requestInGraph, requestCall}
-use Rattle.native.specs.Retain as retaining
-use Rattle.native.specs.Retain.{Retention, retainInGraph, retainCall}
+use Rattle.native.specs.Guard.{assumes, assumeInGraph, assumeCall}
+use Rattle.native.specs.Retain.{retainInGraph, retainCall}
 use Rattle.native.specs.Typing.{isNumber, binaryTyped}
-use Rattle.meaning.specs.Value.{Env, size, integerOf, ofType, valued, operationMeans, value}
-use Rattle.meaning.specs.Book.{Action, constant, input, effect, builder, retain, pattern, rangeOf, requestMeans, Line, Condition, inputIs, effectIs, Book, orElse, first, handed, adds, struck, retains, State, called, kept, act, play, AllMet, Right, AllRight, Demand3}
+use Rattle.meaning.specs.Value.{Env, size, integerOf, ofType, valued, value}
+use Rattle.meaning.proofs.Worlds.{World, operationMeans}
+use Rattle.meaning.specs.Book.{Action, constant, input, effect, builder, guard, retain, pattern, rangeOf, requestMeans, Line, Condition, inputIs, effectIs, holds, orElse, first, handed, keeps, renumbered, struck, State, called, kept, act, play, AllMet, Right, AllRight}
 use Rattle.meaning.proofs.Values.{typed-is}
 use Rattle.graph.proofs.Appended.{empty-graph}
-use Rattle.meaning.proofs.Invariant.{shiftable, storedTyped, Ends, Within, Inv, Extends, ext-here, ext-value, Storable, Answered, insert-good}
-use Rattle.meaning.proofs.Constants.{pattern as pattern-small, reduced-same, stored-low, stored-high, constant-storable}
+use Rattle.meaning.proofs.Invariant.{shiftable, storedTyped, Ends, Within, Inv, Extends, ext-here, ext-value, Storable, Kept, Answered, insert-good}
+use Rattle.meaning.proofs.Constants.{reduced-same, stored-low, stored-high, constant-storable}
 use Rattle.meaning.proofs.Answers.{by-test, each-else}
 use Rattle.meaning.proofs.Ranges.{type-within, type-ends}
+use Rattle.meaning.proofs.Assumed.{assumed-kept}
+use Rattle.meaning.proofs.Mapping.{kept-same, below-renumbered}
 use Rattle.meaning.proofs.Plans.{Covers, then-covers, binary-covers, concat-covers}
 use Rattle.meaning.proofs.Retain.{kept-here, retain-value, retain-inv}
 use Rattle.meaning.proofs.Tree as Tree
 use Rattle.meaning.proofs.Tree.{Sound}
 use Rattle.meaning.proofs.Views.{same-type}
 
--- ---- what the induction needs of a condition
+-- ---- the world of a state
 
--- an input's pattern, if it is of the type, lies in the range given: less than Met, so that one environment has it of every condition
-abbrev Bounded : Env → Condition → Type 0
-Bounded ρ (inputIs n t r) = typeWidth t ≤ 128 → ρ .input n < size t → (a : Interval) → r ≡ some a → (integerOf t (ρ .input n)) ∈ a
-Bounded ρ (effectIs n t) = Unit {0}
+-- an environment, where it meets conditions
+abbrev At : Env → List Condition → World
+At ρ cs = record { env = ρ; sure = AllMet ρ cs }
 
-abbrev AllBounded : Env → List Condition → Type 0
-AllBounded ρ [] = Unit {0}
-AllBounded ρ (c ∷ cs) = Bounded ρ c × AllBounded ρ cs
+-- what holds where these conditions are met holds where more are
+weaken : (ρ : Env) (cs ds : List Condition) {g : List ℕ} → (AllMet ρ ds → AllMet ρ cs) → Inv (At ρ cs) g → Inv (At ρ ds) g
+weaken ρ cs ds f i = record {
+  graph = i .graph;
+  exact = i .exact;
+  keys = i .keys;
+  typed = i .typed;
+  refined = λ n l m. i .refined n l (f m);
+  ends = i .ends;
+  ranged = λ n l m. i .ranged n l (f m);
+  alias = λ n l. ⊎-elim (λ e. inl e) (λ d. inr (record { here = d .here; type = d .type; means = d .means; inside = d .inside })) (i .alias n l);
+}
 
-met-bounded : (ρ : Env) (cs : List Condition) → AllMet ρ cs → AllBounded ρ cs
-met-bounded ρ [] m = tt
-met-bounded ρ (inputIs n t r ∷ cs) m = (λ w l. m .0 .1, met-bounded ρ cs (m .1))
-met-bounded ρ (effectIs n t ∷ cs) m = (tt, met-bounded ρ cs (m .1))
-
--- patterns that are of no type
-outside : Env
-outside = record { input = λ n. 2 ^ 128; effect = λ n. 2 ^ 128 }
-
-outside-bounded : (cs : List Condition) → AllBounded outside cs
-unfolding outside
-outside-bounded [] = tt
-outside-bounded (inputIs n t r ∷ cs) = (λ w l. absurd (lt-irrefl (2 ^ 128) (pattern-small t (2 ^ 128) w l)), outside-bounded cs)
-outside-bounded (effectIs n t ∷ cs) = (tt, outside-bounded cs)
+met-rest : (ρ : Env) (cs ds : List Condition) → AllMet ρ (cs ++ ds) → AllMet ρ ds
+met-rest ρ [] ds m = m
+met-rest ρ (c ∷ cs) ds m = met-rest ρ cs ds (m .1)
 
 -- ---- lines
 
@@ -90,7 +91,7 @@ module _ (ρ : Env) where
   lines-ext : {g h : List ℕ} → Extends g h → (ls : List Line) → AllRight ρ g ls → AllRight ρ h ls
   lines-ext e [] r = tt
   lines-ext e (l ∷ ls) r =
-      (record { here = ext-here e (l .id) (r .0 .here); means = λ v q. ext-value ρ e (l .id) (r .0 .here) ∙ r .0 .means v q }, lines-ext e ls (r .1))
+      (record { here = ext-here e (l .id) (r .0 .here); means = λ v q. ext-value (At ρ []) e (l .id) (r .0 .here) ∙ r .0 .means v q }, lines-ext e ls (r .1))
 
   lines-more : (g : List ℕ) (ls : List Line) (l : Line) → AllRight ρ g ls → Right ρ g l → AllRight ρ g (ls ++ (l ∷ []))
   lines-more g [] l r q = (q, tt)
@@ -112,28 +113,6 @@ module _ (ρ : Env) where
   -- what an id handed in stands for is its node's value
   handed-is : (g : List ℕ) (ls : List Line) → AllRight ρ g ls → (n : ℕ) → Covers (handed ρ g ls n) (value ρ g n)
   handed-is g ls r n v e = else-is (first ls n) (value ρ g n) v e (λ z. first-is g ls r n v z) (λ z. z)
-
-  -- ---- conditions
-
-  bounded-rest : (cs ds : List Condition) → AllBounded ρ (cs ++ ds) → AllBounded ρ ds
-  bounded-rest [] ds m = m
-  bounded-rest (c ∷ cs) ds m = bounded-rest cs ds (m .1)
-
-  adds-bounded : (a : Response) (v : Option ℕ) (cs : List Condition) (b : Book) → AllBounded ρ (adds a v cs b .conditions) → AllBounded ρ (b .conditions)
-  adds-bounded (calls.id n) v cs b m = bounded-rest cs (b .conditions) m
-  adds-bounded calls.nothing v cs b m = m
-  adds-bounded (calls.refused k) v cs b m = m
-
-  retains-bounded : (o : retaining.Outcome) (keep : List ℕ) (b : Book) → AllBounded ρ (retains o keep b .conditions) → AllBounded ρ (b .conditions)
-  retains-bounded (retaining.kept n) keep b m = m
-  retains-bounded (retaining.refused k) keep b m = m
-
-  act-bounded : (a : Action) (s : State) → AllBounded ρ (act ρ a s .book .conditions) → AllBounded ρ (s .book .conditions)
-  act-bounded (constant t v) s m = adds-bounded (constantCall (s .graph) t (pattern v) .answer) (valued t (pattern v)) [] (s .book) m
-  act-bounded (input n t r) s m = adds-bounded (inputCall (s .graph) n t (rangeOf r) .answer) (ofType t (ρ .input n)) (inputIs n t (rangeOf r) ∷ []) (s .book) m
-  act-bounded (effect n t) s m = adds-bounded (effectCall (s .graph) n t .answer) (ofType t (ρ .effect n)) (effectIs n t ∷ []) (s .book) m
-  act-bounded (builder q) s m = adds-bounded (requestCall (s .graph) q .answer) (requestMeans (handed ρ (s .graph) (s .book .lines)) q) [] (s .book) m
-  act-bounded (retain keep mapping) s m = retains-bounded (retainCall (s .graph) keep mapping .outcome) keep (s .book) m
 
 -- ---- what a request means goes on where more is defined
 
@@ -200,11 +179,14 @@ inserted-put g t r o = by (interned g o (wordsOf t r o))
 
 -- ---- one call
 
--- the invariant, and every line right
+-- the invariant, and every line right, where the conditions are met
 abbrev pub Fine : Env → State → Type 0
-Fine ρ s = Inv ρ (s .graph) × AllRight ρ (s .graph) (s .book .lines)
+Fine ρ s = Inv (At ρ (s .book .conditions)) (s .graph) × (AllMet ρ (s .book .conditions) → AllRight ρ (s .graph) (s .book .lines))
 
-module _ (ρ : Env) (s : State) (i : Inv ρ (s .graph)) (r : AllRight ρ (s .graph) (s .book .lines)) where
+module _ (ρ : Env) (s : State) (i : Inv (At ρ (s .book .conditions)) (s .graph)) (r : AllMet ρ (s .book .conditions) → AllRight ρ (s .graph) (s .book .lines)) where
+  abbrev here : World
+  here = At ρ (s .book .conditions)
+
   module _ (v : Option ℕ) (cs : List Condition) where
     abbrev After : Called → Type 0
     After c = Fine ρ (called c v cs (s .book))
@@ -212,19 +194,26 @@ module _ (ρ : Env) (s : State) (i : Inv ρ (s .graph)) (r : AllRight ρ (s .gra
     refused-fine : (k : ℕ) → After (refusal (s .graph) k)
     refused-fine k = (i, r)
 
-    answered-fine : (t : ScalarType) (w : Option ℕ) (a : Reply) (h : List ℕ) → Answered ρ (s .graph) t w a h → Covers v w
-        → After (finished (s .graph) (made a h))
-    answered-fine t w (graph.id n) h k c = (
+    -- a call that answers a node
+    id-fine : (t : ScalarType) (w : Option ℕ) (n : ℕ) (h : List ℕ) → Answered (At ρ (cs ++ s .book .conditions)) (s .graph) t w (graph.id n) h
+        → (AllMet ρ (cs ++ s .book .conditions) → Covers v w) → After (finished (s .graph) (made (graph.id n) h))
+    id-fine t w n h k c = (
       k .0 .inv,
-      lines-more ρ h (s .book .lines) (record { id = n; val = v }) (lines-ext ρ (k .0 .grows) (s .book .lines) r)
-          (record { here = k .1 .here; means = λ x e. k .1 .means x (c x e) }),
+      λ m. lines-more ρ h (s .book .lines) (record { id = n; val = v })
+          (lines-ext ρ (k .0 .grows) (s .book .lines) (r (met-rest ρ cs (s .book .conditions) m)))
+          (record { here = k .1 .here; means = λ x e. k .1 .means m x (c m x e) }),
     )
-    answered-fine t w graph.nothing h k c = (k .inv, lines-ext ρ (k .grows) (s .book .lines) r)
-    answered-fine t w graph.room h k c = (i, r)
-    answered-fine t w graph.units h k c = (i, r)
 
-    ended-fine : (t : ScalarType) (w : Option ℕ) (o : Out) → Tree.Ends ρ (s .graph) t w o → Covers v w → After (finished (s .graph) (madeOf o))
-    ended-fine t w (out a u h) k c = answered-fine t w a h k c
+  answered-fine : (v : Option ℕ) (t : ScalarType) (w : Option ℕ) (a : Reply) (h : List ℕ) → Answered here (s .graph) t w a h
+      → (AllMet ρ (s .book .conditions) → Covers v w) → After v [] (finished (s .graph) (made a h))
+  answered-fine v t w (graph.id n) h k c = id-fine v [] t w n h k c
+  answered-fine v t w graph.nothing h k c = (k .inv, λ m. lines-ext ρ (k .grows) (s .book .lines) (r m))
+  answered-fine v t w graph.room h k c = (i, r)
+  answered-fine v t w graph.units h k c = (i, r)
+
+  ended-fine : (v : Option ℕ) (t : ScalarType) (w : Option ℕ) (o : Out) → Tree.Ends here (s .graph) t w o → (AllMet ρ (s .book .conditions) → Covers v w)
+      → After v [] (finished (s .graph) (madeOf o))
+  ended-fine v t w (out a u h) k c = answered-fine v t w a h k c
 
   -- ---- constants
 
@@ -244,29 +233,31 @@ module _ (ρ : Env) (s : State) (i : Inv ρ (s .graph)) (r : AllRight ρ (s .gra
       (λ d.
       let c = reduced t (pattern v) in
       let small : c < size t = number t (pattern v) (mod-lt v (pow-pos 128)) d in
-      answered-fine (valued t (pattern v)) [] t (valued t c) (inserted (s .graph) t (constantInterval t c) (node.constant c) .answer)
+      answered-fine (valued t (pattern v)) t (valued t c) (inserted (s .graph) t (constantInterval t c) (node.constant c) .answer)
       (inserted (s .graph) t (constantInterval t c) (node.constant c) .words)
-      (insert-good ρ (s .graph) t (constantInterval t c) (node.constant c) i
-      (constant-storable ρ (s .graph) t c (leb-true (typeWidth t) 128 f) small))
-      (λ x q. ap (ofType t) (reduced-same t c small) ∙ q))
+      (insert-good here (s .graph) t (constantInterval t c) (node.constant c) i
+      (constant-storable here (s .graph) t c (leb-true (typeWidth t) 128 f) small))
+      (λ m x q. ap (ofType t) (reduced-same t c small) ∙ q))
       (λ d. refused-fine (valued t (pattern v)) [] 5))
       (λ f. refused-fine (valued t (pattern v)) [] 2))
       (λ e. refused-fine (valued t (pattern v)) [] 1)
 
   -- ---- inputs and effects
 
-  -- a leaf, whose node may be stored once the call has answered an id
-  leaf-fine : (t : ScalarType) (a : Option Interval) (o : Op) (v : Option ℕ) (cs : List Condition)
-      → (AllBounded ρ (cs ++ s .book .conditions) → Storable ρ (s .graph) t a o) → Covers v (operationMeans ρ t o (value ρ (s .graph)))
-      → AllBounded ρ (called (finished (s .graph) (inserted (s .graph) t a o)) v cs (s .book) .book .conditions) → After v cs (finished (s .graph) (inserted (s .graph) t a o))
-  leaf-fine t a o v cs storable c = by (inserted (s .graph) t a o .answer) (inserted (s .graph) t a o .words) (inserted-put (s .graph) t a o) (insert-good ρ (s .graph) t a o i)
+  -- a leaf, whose node may be stored
+  leaf-fine : (t : ScalarType) (a : Option Interval) (o : Op) (v : Option ℕ) (cs : List Condition) → Storable (At ρ (cs ++ s .book .conditions)) (s .graph) t a o
+      → Covers v (operationMeans here t o (value ρ (s .graph))) → After v cs (finished (s .graph) (inserted (s .graph) t a o))
+  leaf-fine t a o v cs storable c =
+      by (inserted (s .graph) t a o .answer) (inserted (s .graph) t a o .words) (inserted-put (s .graph) t a o)
+      (insert-good (At ρ (cs ++ s .book .conditions)) (s .graph) t a o (weaken ρ (s .book .conditions) (cs ++ s .book .conditions) (met-rest ρ cs (s .book .conditions)) i) storable)
     where
-      by : (x : Reply) (h : List ℕ) → IsPut x → (Storable ρ (s .graph) t a o → Answered ρ (s .graph) t (operationMeans ρ t o (value ρ (s .graph))) x h)
-          → AllBounded ρ (called (finished (s .graph) (made x h)) v cs (s .book) .book .conditions) → After v cs (finished (s .graph) (made x h))
-      by (graph.id n) h p k m = answered-fine v cs t (operationMeans ρ t o (value ρ (s .graph))) (graph.id n) h (k (storable m)) c
-      by graph.nothing h p k m = absurd p
-      by graph.room h p k m = (i, r)
-      by graph.units h p k m = absurd p
+      by : (x : Reply) (h : List ℕ) → IsPut x
+          → Answered (At ρ (cs ++ s .book .conditions)) (s .graph) t (operationMeans here t o (value ρ (s .graph))) x h
+          → After v cs (finished (s .graph) (made x h))
+      by (graph.id n) h p k = id-fine v cs t (operationMeans here t o (value ρ (s .graph))) n h k (λ m. c)
+      by graph.nothing h p k = absurd p
+      by graph.room h p k = (i, r)
+      by graph.units h p k = absurd p
 
   pattern-ends : (p : Option (ℕ × ℕ)) (a : Interval) → rangeOf p ≡ some a → Ends a
   pattern-ends none a e = absurd (none-some e)
@@ -289,9 +280,9 @@ module _ (ρ : Env) (s : State) (i : Inv ρ (s .graph)) (r : AllRight ρ (s .gra
       let c = tests (leZ (b .low) (b .high)) _ d in
       subst (Valid t) (some-is e) (record { full = at-most (b .low) (b .high) (c .0); inside = c .1 })
 
-  input-storable : (n : ℕ) (t : ScalarType) (p : Option (ℕ × ℕ)) → typeWidth t ≤ 128 → isDeclared t (rangeOf p) ≡ true → Bounded ρ (inputIs n t (rangeOf p))
-      → Storable ρ (s .graph) t (graph.orElse (rangeOf p) (typeInterval t)) (node.input n)
-  input-storable n t p wide d m = record {
+  input-storable : (n : ℕ) (t : ScalarType) (p : Option (ℕ × ℕ)) → typeWidth t ≤ 128 → isDeclared t (rangeOf p) ≡ true
+      → Storable (At ρ (inputIs n t (rangeOf p) ∷ s .book .conditions)) (s .graph) t (graph.orElse (rangeOf p) (typeInterval t)) (node.input n)
+  input-storable n t p wide d = record {
     stored = record {
       width = omega arith;
       low = stored-low (graph.orElse (rangeOf p) (typeInterval t)) (given-ends t p);
@@ -305,32 +296,31 @@ module _ (ρ : Env) (s : State) (i : Inv ρ (s .graph)) (r : AllRight ρ (s .gra
     parameter = omega arith;
     valid = given-valid t p d;
     typed = tt;
-    refined = tt;
+    refined = λ m. tt;
     ends = given-ends t p;
-    within = λ v e.
+    within = λ m v e.
         let (q, l) = typed-is t (ρ .input n) v e in
         let l : ρ .input n < size t = subst (λ (x : ℕ). x < size t) q l in
-        subst (λ (x : ℕ). Within t x (graph.orElse (rangeOf p) (typeInterval t))) (sym q) (given-within t p (ρ .input n) l (m wide l));
+        subst (λ (x : ℕ). Within t x (graph.orElse (rangeOf p) (typeInterval t))) (sym q) (given-within t p (ρ .input n) l (m .0 .1));
   }
 
-  inleaf-fine : (n : ℕ) (t : ScalarType) (p : Option (ℕ × ℕ)) → AllBounded ρ (act ρ (input n t p) s .book .conditions) → Fine ρ (act ρ (input n t p) s)
+  inleaf-fine : (n : ℕ) (t : ScalarType) (p : Option (ℕ × ℕ)) → Fine ρ (act ρ (input n t p) s)
   unfolding inputCall inputInGraph graph.input
   inleaf-fine n t p =
       let v = ofType t (ρ .input n) in
       let cs = inputIs n t (rangeOf p) ∷ [] in
-      by-test (λ c. AllBounded ρ (called c v cs (s .book) .book .conditions) → After v cs c) (isGraph (s .graph))
+      by-test (After v cs) (isGraph (s .graph))
       (λ e.
-      by-test (λ c. AllBounded ρ (called c v cs (s .book) .book .conditions) → After v cs c) (leb (typeWidth t) 128)
+      by-test (After v cs) (leb (typeWidth t) 128)
       (λ f.
-      by-test (λ c. AllBounded ρ (called c v cs (s .book) .book .conditions) → After v cs c) (isDeclared t (rangeOf p))
+      by-test (After v cs) (isDeclared t (rangeOf p))
       (λ d.
-      leaf-fine t (graph.orElse (rangeOf p) (typeInterval t)) (node.input n) v cs
-      (λ m. input-storable n t p (leb-true (typeWidth t) 128 f) d (m .0)) (λ x q. q))
-      (λ d m. refused-fine v cs 5))
-      (λ f m. refused-fine v cs 2))
-      (λ e m. refused-fine v cs 1)
+      leaf-fine t (graph.orElse (rangeOf p) (typeInterval t)) (node.input n) v cs (input-storable n t p (leb-true (typeWidth t) 128 f) d) (λ x q. q))
+      (λ d. refused-fine v cs 5))
+      (λ f. refused-fine v cs 2))
+      (λ e. refused-fine v cs 1)
 
-  effect-storable : (n : ℕ) (t : ScalarType) → typeWidth t ≤ 128 → Storable ρ (s .graph) t (typeInterval t) (node.effect n)
+  effect-storable : (n : ℕ) (t : ScalarType) → typeWidth t ≤ 128 → Storable (At ρ (effectIs n t ∷ s .book .conditions)) (s .graph) t (typeInterval t) (node.effect n)
   effect-storable n t wide = record {
     stored = record {
       width = omega arith;
@@ -345,9 +335,9 @@ module _ (ρ : Env) (s : State) (i : Inv ρ (s .graph)) (r : AllRight ρ (s .gra
     parameter = omega arith;
     valid = type-valid t;
     typed = tt;
-    refined = tt;
+    refined = λ m. tt;
     ends = type-ends t;
-    within = λ v e. type-within t v (typed-is t (ρ .effect n) v e .1);
+    within = λ m v e. type-within t v (typed-is t (ρ .effect n) v e .1);
   }
 
   effect-fine : (n : ℕ) (t : ScalarType) → Fine ρ (act ρ (effect n t) s)
@@ -359,19 +349,18 @@ module _ (ρ : Env) (s : State) (i : Inv ρ (s .graph)) (r : AllRight ρ (s .gra
       (λ e.
       by-test (After v cs) (leb (typeWidth t) 128)
       (λ f.
-      answered-fine v cs t v (inserted (s .graph) t (typeInterval t) (node.effect n) .answer) (inserted (s .graph) t (typeInterval t) (node.effect n) .words)
-      (insert-good ρ (s .graph) t (typeInterval t) (node.effect n) i (effect-storable n t (leb-true (typeWidth t) 128 f))) (λ x q. q))
+      leaf-fine t (typeInterval t) (node.effect n) v cs (effect-storable n t (leb-true (typeWidth t) 128 f)) (λ x q. q))
       (λ f. refused-fine v cs 2))
       (λ e. refused-fine v cs 1)
 
   -- ---- builders
 
-  module _ (builds : Sound ρ build.build)
+  module _ (builds : Sound here build.build)
       (tested : (v low high : ℕ) → v < countOf (s .graph)
-      → Tree.Ends ρ (s .graph) ty.Bool (requestMeans (value ρ (s .graph)) (request.unsignedRange v low high)) (build.unsignedRange v low high UNITS (s .graph))) where
+      → Tree.Ends here (s .graph) ty.Bool (requestMeans (value ρ (s .graph)) (request.unsignedRange v low high)) (build.unsignedRange v low high UNITS (s .graph))) where
     -- what a request's work comes to, once questions 2 to 4 are answered
     worked-ends : (q : Request) → allUpTo 128 (widths q) ≡ true → allBelow (countOf (s .graph)) (ids q) ≡ true → typed (s .graph) q ≡ true
-        → (t : ScalarType) × Tree.Ends ρ (s .graph) t (requestMeans (value ρ (s .graph)) q) (worked (s .graph) q)
+        → (t : ScalarType) × Tree.Ends here (s .graph) t (requestMeans (value ρ (s .graph)) q) (worked (s .graph) q)
     unfolding worked
     worked-ends (request.unary t o v) a b c =
         let p = tests (leb (typeWidth t) 128) _ a in
@@ -420,30 +409,59 @@ module _ (ρ : Env) (s : State) (i : Inv ρ (s .graph)) (r : AllRight ρ (s .gra
         by-test (After v []) (typed (s .graph) q)
         (λ c.
         let k = worked-ends q a b c in
-        ended-fine v [] (k .0) (requestMeans (value ρ (s .graph)) q) (worked (s .graph) q) (k .1)
-        (request-covers q (handed ρ (s .graph) (s .book .lines)) (value ρ (s .graph)) (handed-is ρ (s .graph) (s .book .lines) r)))
+        ended-fine v (k .0) (requestMeans (value ρ (s .graph)) q) (worked (s .graph) q) (k .1)
+        (λ m. request-covers q (handed ρ (s .graph) (s .book .lines)) (value ρ (s .graph)) (handed-is ρ (s .graph) (s .book .lines) (r m))))
         (λ c. refused-fine v [] 4))
         (λ b. refused-fine v [] 3))
         (λ a. refused-fine v [] 2))
         (λ e. refused-fine v [] 1)
+
+  -- ---- guards
+
+  -- what a guard leaves: the lines as they were, in a graph that goes on
+  guarded-fine : (cs : List Condition) (o : Outcome) (h : List ℕ) → Kept (At ρ (cs ++ s .book .conditions)) (s .graph) h
+      → After none cs (assumes (s .graph) o h)
+  guarded-fine cs refine.unchanged h k = (k .inv, λ m. lines-ext ρ (k .grows) (s .book .lines) (r (met-rest ρ cs (s .book .conditions) m)))
+  guarded-fine cs refine.narrowed h k = (k .inv, λ m. lines-ext ρ (k .grows) (s .book .lines) (r (met-rest ρ cs (s .book .conditions) m)))
+  guarded-fine cs refine.full h k = (i, r)
+
+  -- the condition's value is what is expected, where the conditions are met
+  guard-fine : (n : ℕ) (e : Bool) → Fine ρ (act ρ (guard n e) s)
+  unfolding assumeCall assumeInGraph
+  guard-fine n e =
+      let cs = holds (handed ρ (s .graph) (s .book .lines) n) e ∷ [] in
+      by-test (After none cs) (isGraph (s .graph))
+      (λ a.
+      by-test (After none cs) (ltb n (countOf (s .graph)))
+      (λ b.
+      by-test (After none cs) (sameType (typeAt (s .graph) n) ty.Bool)
+      (λ c.
+      guarded-fine cs (assumedGuard (s .graph) n e .outcome) (assumedGuard (s .graph) n e .words)
+      (assumed-kept (weaken ρ (s .book .conditions) (cs ++ s .book .conditions) (λ m. m .1) i) n e (ltb-true n (countOf (s .graph)) b)
+      (same-type (typeAt (s .graph) n) ty.Bool c)
+      (λ m. handed-is ρ (s .graph) (s .book .lines) (r (m .1)) n (fromBool e) (m .0))))
+      (λ c. refused-fine none cs 4))
+      (λ b. refused-fine none cs 3))
+      (λ a. refused-fine none cs 1)
 
   -- ---- retain
 
   struck-right : (keep mapping : List ℕ) → isChoice (s .graph) keep mapping ≡ true → (ls : List Line) → AllRight ρ (s .graph) ls
       → AllRight ρ (retained (s .graph) keep) (struck keep ls)
   struck-right keep mapping c [] d = tt
-  struck-right keep mapping c (l ∷ ls) d = go (isKept keep (l .id)) refl (struck-right keep mapping c ls (d .1))
+  struck-right keep mapping c (l ∷ ls) d = go (keeps keep (l .id)) refl (struck-right keep mapping c ls (d .1))
     where
       f : Choice (s .graph) keep mapping
       f = choice-facts (s .graph) keep mapping c
 
-      go : (b : Bool) → isKept keep (l .id) ≡ b → AllRight ρ (retained (s .graph) keep) (struck keep ls)
-          → AllRight ρ (retained (s .graph) keep) (cond b (record { id = newId keep (l .id); val = l .val } ∷ struck keep ls) (struck keep ls))
-      go true k ih =
-          let n = id-kept keep (l .id) k in (
+      go : (b : Bool) → keeps keep (l .id) ≡ b → AllRight ρ (retained (s .graph) keep) (struck keep ls)
+          → AllRight ρ (retained (s .graph) keep) (cond b (record { id = renumbered keep (l .id); val = l .val } ∷ struck keep ls) (struck keep ls))
+      go true q ih =
+          let n = sym (below-renumbered keep (l .id)) in
+          let k = kept-same keep (l .id) ∙ q in (
             record {
-              here = rw n (kept-here ρ i f (l .id) (d .0 .here) k);
-              means = λ v q. ap (value ρ (retained (s .graph) keep)) n ∙ retain-value ρ i f (l .id) (d .0 .here) k ∙ d .0 .means v q;
+              here = rw n (kept-here here i f (l .id) (d .0 .here) k);
+              means = λ v e. ap (value ρ (retained (s .graph) keep)) n ∙ retain-value here i f (l .id) (d .0 .here) k ∙ d .0 .means v e;
             },
             ih,
           )
@@ -456,45 +474,25 @@ module _ (ρ : Env) (s : State) (i : Inv ρ (s .graph)) (r : AllRight ρ (s .gra
       (λ e.
       by-test (λ k. Fine ρ (kept k keep (s .book))) (isChoice (s .graph) keep mapping)
       (λ c.
-      (retain-inv ρ i (choice-facts (s .graph) keep mapping c), struck-right keep mapping c (s .book .lines) r))
+      (retain-inv here i (choice-facts (s .graph) keep mapping c), λ m. struck-right keep mapping c (s .book .lines) (r m)))
       (λ c. (i, r)))
       (λ e. (i, r))
 
-  -- the mapping of a retain that isn't refused
-  abbrev Mapped : List ℕ → ℕ → Retention → Type 0
-  Mapped keep n k =
-      (getD (k .mapping) n 0 ≡ newId keep n) × (isKept keep n ≡ true → value ρ (k .words) (newId keep n) ≡ value ρ (s .graph) n)
-
-  mapped : (keep mapping : List ℕ) (m : ℕ) → retainCall (s .graph) keep mapping .outcome ≡ retaining.kept m → (n : ℕ) → n < countOf (s .graph)
-      → Mapped keep n (retainCall (s .graph) keep mapping)
-  unfolding retainCall retainInGraph
-  mapped keep mapping m q n l =
-      by-test (λ k. k .outcome ≡ retaining.kept m → Mapped keep n k) (isGraph (s .graph))
-      (λ e.
-      by-test (λ k. k .outcome ≡ retaining.kept m → Mapped keep n k) (isChoice (s .graph) keep mapping)
-      (λ c p. (
-        ids-at keep (countOf (s .graph)) n 0 l,
-        λ k. ap (value ρ (retained (s .graph) keep)) (id-kept keep n k) ∙ retain-value ρ i (choice-facts (s .graph) keep mapping c) n l k,
-      ))
-      (λ c p. absurd (not-kept p)))
-      (λ e p. absurd (not-kept p)) q
-    where
-      not-kept : {a b : ℕ} → retaining.refused a ≡ retaining.kept b → ⊥
-      not-kept p = let z : _≡_ {A = ℕ} 0 1 = cc in omega arith
-
 -- ---- every list of calls
 
-module _ (ρ : Env) (builds : Sound ρ build.build)
-    (tested : (g : List ℕ) → Inv ρ g → (v low high : ℕ) → v < countOf g
-    → Tree.Ends ρ g ty.Bool (requestMeans (value ρ g) (request.unsignedRange v low high)) (build.unsignedRange v low high UNITS g)) where
-  act-fine : (a : Action) (s : State) → Fine ρ s → AllBounded ρ (act ρ a s .book .conditions) → Fine ρ (act ρ a s)
-  act-fine (constant t v) s f m = constant-fine ρ s (f .0) (f .1) t v
-  act-fine (input n t p) s f m = inleaf-fine ρ s (f .0) (f .1) n t p m
-  act-fine (effect n t) s f m = effect-fine ρ s (f .0) (f .1) n t
-  act-fine (builder q) s f m = builder-fine ρ s (f .0) (f .1) builds (tested (s .graph) (f .0)) q
-  act-fine (retain keep mapping) s f m = retain-fine ρ s (f .0) (f .1) keep mapping
+module _ (builds : (w : World) → Sound w build.build)
+    (tested : (w : World) (g : List ℕ) → Inv w g → (v low high : ℕ) → v < countOf g
+    → Tree.Ends w g ty.Bool (requestMeans (value (w .env) g) (request.unsignedRange v low high)) (build.unsignedRange v low high UNITS g)) (ρ : Env) where
+  act-fine : (a : Action) (s : State) → Fine ρ s → Fine ρ (act ρ a s)
+  act-fine (constant t v) s f = constant-fine ρ s (f .0) (f .1) t v
+  act-fine (input n t p) s f = inleaf-fine ρ s (f .0) (f .1) n t p
+  act-fine (effect n t) s f = effect-fine ρ s (f .0) (f .1) n t
+  act-fine (builder q) s f =
+      builder-fine ρ s (f .0) (f .1) (builds (At ρ (s .book .conditions))) (tested (At ρ (s .book .conditions)) (s .graph) (f .0)) q
+  act-fine (guard n e) s f = guard-fine ρ s (f .0) (f .1) n e
+  act-fine (retain keep mapping) s f = retain-fine ρ s (f .0) (f .1) keep mapping
 
-  empty-inv : Inv ρ (replicate REGION 0)
+  empty-inv : Inv (At ρ []) (replicate REGION 0)
   empty-inv = record {
     graph = empty-graph;
     exact = λ n l. absurd (omega arith);
@@ -506,42 +504,7 @@ module _ (ρ : Env) (builds : Sound ρ build.build)
     alias = λ n l. absurd (omega arith);
   }
 
-  play-fine : (calls : List Action) → AllBounded ρ (play ρ calls .book .conditions) → Fine ρ (play ρ calls)
+  pub play-fine : (calls : List Action) → Fine ρ (play ρ calls)
   unfolding play
-  play-fine [] m = (empty-inv, tt)
-  play-fine (a ∷ before) m = act-fine a (play ρ before) (play-fine before (act-bounded ρ a (play ρ before) m)) m
-
-  pub demand3-of : (calls : List Action) → AllMet ρ (play ρ calls .book .conditions) → Demand3 ρ (play ρ calls)
-  demand3-of calls m =
-      let f = play-fine calls (met-bounded ρ (play ρ calls .book .conditions) m) in
-      record {
-        lines = f .1;
-        ranges = f .0 .ranged;
-        mappings = mapped ρ (play ρ calls) (f .0) (f .1);
-      }
-
--- ---- the graph of a list of calls, whatever the values
-
--- a call reads and writes the graph alone
-act-graph : (ρ σ : Env) (a : Action) (s u : State) → s .graph ≡ u .graph → act ρ a s .graph ≡ act σ a u .graph
-act-graph ρ σ (constant t v) s u e = ap (λ (g : List ℕ). constantCall g t (pattern v) .words) e
-act-graph ρ σ (input n t p) s u e = ap (λ (g : List ℕ). inputCall g n t (rangeOf p) .words) e
-act-graph ρ σ (effect n t) s u e = ap (λ (g : List ℕ). effectCall g n t .words) e
-act-graph ρ σ (builder q) s u e = ap (λ (g : List ℕ). requestCall g q .words) e
-act-graph ρ σ (retain keep mapping) s u e = ap (λ (g : List ℕ). retainCall g keep mapping .words) e
-
--- the calls alone make the graph
-pub play-graph : (ρ σ : Env) (calls : List Action) → play ρ calls .graph ≡ play σ calls .graph
-unfolding play
-play-graph ρ σ [] = refl
-play-graph ρ σ (a ∷ before) = act-graph ρ σ a (play ρ before) (play σ before) (play-graph ρ σ before)
-
--- the invariant at one environment, with no condition: what it says of the graph alone holds whatever the values
-pub grown : ((ρ : Env) → Sound ρ build.build)
-    → ((ρ : Env) (g : List ℕ) → Inv ρ g → (v low high : ℕ) → v < countOf g
-    → Tree.Ends ρ g ty.Bool (requestMeans (value ρ g) (request.unsignedRange v low high)) (build.unsignedRange v low high UNITS g))
-    → (calls : List Action) → (ρ : Env) × Inv ρ (play ρ calls .graph)
-grown builds tested calls = (
-  outside,
-  play-fine outside (builds outside) (tested outside) calls (outside-bounded (play outside calls .book .conditions)) .0,
-)
+  play-fine [] = (empty-inv, λ m. tt)
+  play-fine (a ∷ before) = act-fine a (play ρ before) (play-fine before)

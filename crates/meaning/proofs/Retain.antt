@@ -24,9 +24,9 @@ use Rattle.retain.proofs.Operands.{operator, Choice, first-below, second-below,
 use Rattle.retain.proofs.Laws.{id-kept, kept-mono, kept-less, new-apart, retained-count, retained-word, retained-node}
 use Rattle.retain.proofs.Grown.{Origin, origin-of, retained-graph}
 use Rattle.native.specs.Typing.{unaryTyped, concatTyped}
-use Rattle.meaning.specs.Value.{Env, operationMeans, value}
-use Rattle.meaning.proofs.Values.{value-step}
 use Rattle.graph.proofs.Appended.{wordsFor, Exact, Keys, unary-code, binary-code}
+use Rattle.meaning.proofs.Worlds.{World, operationMeans, value}
+use Rattle.meaning.proofs.Values.{value-step}
 use Rattle.meaning.proofs.Invariant.{storedTyped, Typed, Refined, Ends, Within, Leads, Inv, inv-graph, inv-step}
 
 -- ---- an operation with its operands renumbered
@@ -70,7 +70,7 @@ operands-of P (suc (suc (suc (suc (suc (suc c)))))) x y z a b =
     rw (le-ltb code 20 s) (a first, b second))
     (lt-or-ge code 20))
 
-means-renamed : (ρ : Env) (t : ScalarType) (f : ℕ → ℕ) (look new : ℕ → Option ℕ) (o : Op) → Operands (λ i. new (f i) ≡ look i) o
+means-renamed : (ρ : World) (t : ScalarType) (f : ℕ → ℕ) (look new : ℕ → Option ℕ) (o : Op) → Operands (λ i. new (f i) ≡ look i) o
     → operationMeans ρ t (renamed f o) new ≡ operationMeans ρ t o look
 means-renamed ρ t f look new (node.constant c) e = refl
 means-renamed ρ t f look new (node.input i) e = refl
@@ -91,8 +91,8 @@ typed-renamed g h t f (node.concat i j v) e w = (w .0, w .1, (λ k. concatTyped 
 typed-renamed g h t f (node.unary u i) e w = ap (λ (a : ScalarType). unaryTyped u a t) e ∙ w
 typed-renamed g h t f (node.binary b i j) e w = (λ k. storedTyped b (e .0 k) (e .1 k) t) ∙ w
 
-refined-renamed : (ρ : Env) (g h : List ℕ) (t : ScalarType) (f : ℕ → ℕ) (o : Op) → Operands (λ i. value ρ h (f i) ≡ value ρ g i) o → Refined ρ g t o
-    → Refined ρ h t (renamed f o)
+refined-renamed : (ρ : World) (g h : List ℕ) (t : ScalarType) (f : ℕ → ℕ) (o : Op) → Operands (λ i. value ρ h (f i) ≡ value ρ g i) o → Refined (value ρ g) t o
+    → Refined (value ρ h) t (renamed f o)
 refined-renamed ρ g h t f (node.constant c) e w = tt
 refined-renamed ρ g h t f (node.input i) e w = tt
 refined-renamed ρ g h t f (node.refine i) e w = λ v q. w v (sym e ∙ q)
@@ -193,7 +193,7 @@ origin-is keep c n l e (no h) = absurd (h (kept-less keep n c l e))
 
 -- ---- what is left
 
-module _ (ρ : Env) {g keep mapping : List ℕ} (i : Inv ρ g) (d : Choice g keep mapping) where
+module _ (ρ : World) {g keep mapping : List ℕ} (i : Inv ρ g) (d : Choice g keep mapping) where
   f : Graph g
   f = inv-graph i
 
@@ -215,7 +215,7 @@ module _ (ρ : Env) {g keep mapping : List ℕ} (i : Inv ρ g) (d : Choice g kee
     step : value ρ (retained g keep) (keptBelow keep n)
         ≡ operationMeans ρ (typeAt g n) (renamed (newId keep) (operationAt g n)) (value ρ (retained g keep))
     step =
-        value-step ρ (retained g keep) (keptBelow keep n) (start-le left (keptBelow keep n) kept-here)
+        value-step (ρ .env) (retained g keep) (keptBelow keep n) (start-le left (keptBelow keep n) kept-here)
         ∙ (λ k. operationMeans ρ (at .type k) (at .operation k) (value ρ (retained g keep)))
 
   value-below : (m n : ℕ) → n < m → (l : n < countOf g) → (e : isKept keep n ≡ true) → value ρ (retained g keep) (keptBelow keep n) ≡ value ρ g n
@@ -309,18 +309,18 @@ module _ (ρ : Env) {g keep mapping : List ℕ} (i : Inv ρ g) (d : Choice g kee
         (moved (λ j. typeAt (retained g keep) (newId keep j) ≡ typeAt g j) n l e
         (λ j b k. ap (typeAt (retained g keep)) (id-kept keep j k) ∙ retain-type j b k)) (i .typed n l)));
     refined =
-        each (λ j. Refined ρ (retained g keep) (typeAt (retained g keep) j) (operationAt (retained g keep) j))
-        (λ n l e.
+        each (λ j. ρ .sure → Refined (value ρ (retained g keep)) (typeAt (retained g keep) j) (operationAt (retained g keep) j))
+        (λ n l e sure.
         rw (at n l e .type, at n l e .operation)
         (refined-renamed ρ g (retained g keep) (typeAt g n) (newId keep) (operationAt g n)
         (moved (λ j. value ρ (retained g keep) (newId keep j) ≡ value ρ g j) n l e
-        (λ j b k. ap (value ρ (retained g keep)) (id-kept keep j k) ∙ retain-value j b k)) (i .refined n l)));
+        (λ j b k. ap (value ρ (retained g keep)) (id-kept keep j k) ∙ retain-value j b k)) (i .refined n l sure)));
     ends =
         each (λ j. (a : Interval) → rangeAt (retained g keep) j ≡ some a → Ends a)
         (λ n l e a q. i .ends n l a (sym (at n l e .range) ∙ q));
     ranged =
-        each (λ j. (v : ℕ) → value ρ (retained g keep) j ≡ some v → Within (typeAt (retained g keep) j) v (rangeAt (retained g keep) j))
-        (λ n l e v q. rw (at n l e .type, at n l e .range) (i .ranged n l v (sym (retain-value n l e) ∙ q)));
+        each (λ j. ρ .sure → (v : ℕ) → value ρ (retained g keep) j ≡ some v → Within (typeAt (retained g keep) j) v (rangeAt (retained g keep) j))
+        (λ n l e sure v q. rw (at n l e .type, at n l e .range) (i .ranged n l sure v (sym (retain-value n l e) ∙ q)));
     alias =
         each (λ j. (aliasAt (retained g keep) j ≡ 0) ⊎ Leads ρ (retained g keep) j (aliasAt (retained g keep) j - 1))
         (λ n l e. inl (at n l e .alias));

@@ -32,7 +32,8 @@ use Rattle.plan.specs.Plan as plan
 use Rattle.plan.specs.Plan.{Plan}
 use Rattle.plan_binary.specs.Binary.{truthPlan, comparedPlan, twice, zeroPlan, onesPlan, rightPlan, mergedPlan, maskTwice, maskPlan}
 use Rattle.build.specs.Build.{binary}
-use Rattle.meaning.specs.Value.{Env, size, ofType, valued, andThen, binaryMeans, value}
+use Rattle.meaning.specs.Value.{size, ofType, valued, andThen, binaryMeans}
+use Rattle.meaning.proofs.Worlds.{World, value}
 use Rattle.meaning.proofs.Answers.{mapped-is, both-given, each-provided, each-or, binary-is, Every, of-any, by-test, Each, each-none, each-some, each-given}
 use Rattle.meaning.proofs.Values.{typed-is, truth-small}
 use Rattle.meaning.proofs.Invariant.{shiftable, storedTyped, Inv}
@@ -160,50 +161,50 @@ truth-is : (b : Option Bool) (p : Plan) → truthPlan b ≡ some p → (truth : 
 truth-is none p e = absurd (none-some e)
 truth-is (some truth) p e = (truth, refl, some-is e)
 
-module _ {ρ : Env} {g : List ℕ} (i : Inv ρ g) (t : ScalarType) (o : Binary) (l r : ℕ) (k : Callable g (binary t o l r)) where
+module _ {ρ : World} {g : List ℕ} (i : Inv ρ g) (t : ScalarType) (o : Binary) (l r : ℕ) (k : Callable g (binary t o l r)) where
   -- what is asked for
   abbrev Asked : Plan → Type 0
   Asked p = Claim ρ g t (binaryMeans t o (value ρ g l) (value ρ g r)) p
 
   -- the operator gives this of the operands' values
   abbrev Gives : (ℕ → ℕ → ℕ) → Type 0
-  Gives f = (x y : ℕ) → value ρ g l ≡ some x → value ρ g r ≡ some y → evaluateBinary o t x y ≡ some (f x y)
+  Gives f = ρ .sure → (x y : ℕ) → value ρ g l ≡ some x → value ρ g r ≡ some y → evaluateBinary o t x y ≡ some (f x y)
 
-  module _ (f : ℕ → ℕ → ℕ) (gives : Gives f) (v : ℕ) (e : binaryMeans t o (value ρ g l) (value ρ g r) ≡ some v) where
+  module _ (sure : ρ .sure) (f : ℕ → ℕ → ℕ) (gives : Gives f) (v : ℕ) (e : binaryMeans t o (value ρ g l) (value ρ g r) ≡ some v) where
     given-is : (x : ℕ) × (y : ℕ) × (value ρ g l ≡ some x) × (value ρ g r ≡ some y) × (v ≡ f x y) × (v < size t)
     given-is =
         let s = operands ρ g t o l r v e in
-        let q = typed-is t (f (s .x) (s .y)) v (sym (ap (λ (a : Option ℕ). andThen a (ofType t)) (gives (s .x) (s .y) (s .left) (s .right))) ∙ s .means) in
+        let q = typed-is t (f (s .x) (s .y)) v (sym (ap (λ (a : Option ℕ). andThen a (ofType t)) (gives sure (s .x) (s .y) (s .left) (s .right))) ∙ s .means) in
         (s .x, s .y, s .left, s .right, q .0, q .1)
 
   constant-claim : (c : ℕ) → c < size t → Gives (λ x y. c) → Asked (plan.constant t c)
   constant-claim c h gives = (
     refl,
     record { width = k .0; small = rw (reduced-same t c h) h },
-    λ v e. let s = given-is (λ x y. c) gives v e in ap some (reduced-same t c h ∙ sym (s .4)),
+    λ sure v e. let s = given-is sure (λ x y. c) gives v e in ap some (reduced-same t c h ∙ sym (s .4)),
   )
 
   keep-claim : Gives (λ x y. x) → Asked (plan.identity t l)
   keep-claim gives = (
     (k .0, k .1),
     refl,
-    λ v e.
-        let s = given-is (λ x y. x) gives v e in
+    λ sure v e.
+        let s = given-is sure (λ x y. x) gives v e in
         rw (s .2) (ap (valued t) (sym (s .4)) ∙ valued-same t v (s .5)),
   )
 
   give-left : typeAt g l ≡ t → Gives (λ x y. x) → Asked (plan.give l)
-  give-left s gives = record { here = k .1; type = s; means = λ v e. let s = given-is (λ x y. x) gives v e in s .2 ∙ ap some (sym (s .4)) }
+  give-left s gives = record { here = k .1; type = s; means = λ sure v e. let s = given-is sure (λ x y. x) gives v e in s .2 ∙ ap some (sym (s .4)) }
 
   give-right : typeAt g r ≡ t → Gives (λ x y. y) → Asked (plan.give r)
-  give-right s gives = record { here = k .2; type = s; means = λ v e. let s = given-is (λ x y. y) gives v e in s .3 ∙ ap some (sym (s .4)) }
+  give-right s gives = record { here = k .2; type = s; means = λ sure v e. let s = given-is sure (λ x y. y) gives v e in s .3 ∙ ap some (sym (s .4)) }
 
   -- true or false
   truth-claim : (c : ℕ) → c < 2 → t ≡ ty.Bool
-      → ((x y : ℕ) → value ρ g l ≡ some x → value ρ g r ≡ some y → evaluateBinary o ty.Bool x y ≡ some c) → Asked (plan.constant ty.Bool c)
+      → (ρ .sure → (x y : ℕ) → value ρ g l ≡ some x → value ρ g r ≡ some y → evaluateBinary o ty.Bool x y ≡ some c) → Asked (plan.constant ty.Bool c)
   truth-claim c h b gives =
       subst Asked (ap (λ (s : ScalarType). plan.constant s c) b)
-      (constant-claim c (same-size (sym b) c h) (λ x y ex ey. ap (λ (s : ScalarType). evaluateBinary o s x y) b ∙ gives x y ex ey))
+      (constant-claim c (same-size (sym b) c h) (λ sure x y ex ey. ap (λ (s : ScalarType). evaluateBinary o s x y) b ∙ gives sure x y ex ey))
 
   -- And, Or and Xor are of operands of their own type
   bit-types : Merges o → (typeAt g l ≡ t) × (typeAt g r ≡ t)
@@ -219,18 +220,18 @@ module _ {ρ : Env} {g : List ℕ} (i : Inv ρ g) (t : ScalarType) (o : Binary) 
       let s = compares o (f .0) (f .1) (d .0) (f .4) (typeAt g l) (typeAt g r) t (k .3) in
       subst Asked (d .2)
       (truth-claim (fromBool (d .0)) (truth-small (d .0)) (s .0)
-      (λ x y ex ey.
+      (λ sure x y ex ey.
       comparison-sound o (typeAt g l) x y (f .0) (f .1) (d .0) (value-pattern i l (k .1) x ex) (value-pattern i r (k .2) y ey)
-      (i .ranged l (k .1) x ex (f .0) (f .2))
-      (rw (s .1) (i .ranged r (k .2) y ey (f .1) (f .3))) (i .ends l (k .1) (f .0) (f .2)) (i .ends r (k .2) (f .1) (f .3)) (f .4)))
+      (i .ranged l (k .1) sure x ex (f .0) (f .2))
+      (rw (s .1) (i .ranged r (k .2) sure y ey (f .1) (f .3))) (i .ends l (k .1) (f .0) (f .2)) (i .ends r (k .2) (f .1) (f .3)) (f .4)))
 
   -- ---- one node twice
 
   module _ (same : l ≡ r) where
     -- what the operator gives of one value twice
     twice-gives : (s : ScalarType) (f : ℕ → ℕ) → ((x : ℕ) → value ρ g l ≡ some x → evaluateBinary o s x x ≡ some (f x))
-        → (x y : ℕ) → value ρ g l ≡ some x → value ρ g r ≡ some y → evaluateBinary o s x y ≡ some (f x)
-    twice-gives s f h x y ex ey =
+        → ρ .sure → (x y : ℕ) → value ρ g l ≡ some x → value ρ g r ≡ some y → evaluateBinary o s x y ≡ some (f x)
+    twice-gives s f h sure x y ex ey =
         let q : y ≡ x = some-is (sym ey ∙ ap (value ρ g) (sym same) ∙ ex) in
         ap (evaluateBinary o s x) q ∙ h x ex
 
@@ -261,7 +262,7 @@ module _ {ρ : Env} {g : List ℕ} (i : Inv ρ g) (t : ScalarType) (o : Binary) 
   module _ (c : ℕ) (lit : literal g r ≡ some c) where
     -- what the operator gives of a value and the constant
     right-gives : (f : ℕ → ℕ) → ((x : ℕ) → value ρ g l ≡ some x → evaluateBinary o t x c ≡ some (f x)) → Gives (λ x y. f x)
-    right-gives f h x y ex ey =
+    right-gives f h sure x y ex ey =
         let q : y ≡ c = some-is (sym ey ∙ literal-value ρ g i r c (k .2) lit) in
         ap (evaluateBinary o t x) q ∙ h x ex
 
@@ -284,7 +285,7 @@ module _ {ρ : Env} {g : List ℕ} (i : Inv ρ g) (t : ScalarType) (o : Binary) 
         by : (f : ℕ → ℕ) → ((x : ℕ) → value ρ g l ≡ some x → evaluateBinary o t x 0 ≡ some (f x)) → Gives (λ x y. f x)
         by f h = right-gives f (λ x ex. ap (evaluateBinary o t x) z ∙ h x ex)
 
-pub twice-claim : {ρ : Env} {g : List ℕ} (i : Inv ρ g) (t : ScalarType) (o : Binary) (l r : ℕ) (k : Callable g (binary t o l r)) → l ≡ r → (p : Plan)
+pub twice-claim : {ρ : World} {g : List ℕ} (i : Inv ρ g) (t : ScalarType) (o : Binary) (l r : ℕ) (k : Callable g (binary t o l r)) → l ≡ r → (p : Plan)
     → twice t o l ≡ some p → Claim ρ g t (binaryMeans t o (value ρ g l) (value ρ g r)) p
 twice-claim i t bi.Add l r k q p e = absurd (none-some e)
 twice-claim i t bi.Sub l r k q p e = zero-twice i t bi.Sub l r k q (sub-twice t) (some-is e)
@@ -308,7 +309,7 @@ twice-claim i t bi.RemainderUnsigned l r k q p e = absurd (none-some e)
 
 -- ---- all ones on the right
 
-module _ {ρ : Env} {g : List ℕ} (i : Inv ρ g) where
+module _ {ρ : World} {g : List ℕ} (i : Inv ρ g) where
   ones-claim : (t : ScalarType) (o : Binary) (l r : ℕ) (k : Callable g (binary t o l r)) (c : ℕ) → literal g r ≡ some c → (p : Plan)
       → onesPlan t o l r c ≡ some p → Claim ρ g t (binaryMeans t o (value ρ g l) (value ρ g r)) p
   ones-claim ty.Bool o l r k c lit p e =
@@ -324,7 +325,7 @@ module _ {ρ : Env} {g : List ℕ} (i : Inv ρ g) where
       let s = bit-types i ty.Bool o l r k (subst Merges (sym (h .0)) (merges .1 .0)) in
       subst (Asked i ty.Bool o l r k) (h .1)
       (give-right i ty.Bool o l r k (s .1)
-      (λ x y ex ey.
+      (λ sure x y ex ey.
       let q : y ≡ 1 = some-is (sym ey ∙ literal-value ρ g i r c (k .2) lit) ∙ eqb-true c 1 (d .0) in
       (λ j. evaluateBinary (h .0 j) ty.Bool x (q j)) ∙ or-true x (same-size (s .0) x (value-small i l (k .1) x ex)) ∙ ap some (sym q))))
       (ones-facts i ty.Bool o l r k (plan.give l) (plan.give r) p (d .1))
@@ -349,7 +350,7 @@ module _ {ρ : Env} {g : List ℕ} (i : Inv ρ g) where
       (ones-facts i t o l r k (plan.identity t l) (plan.constant t (mask w)) p (d .1))
   ones-claim ty.Integer o l r k c lit p e = absurd (none-some e)
 
-pub right-claim : {ρ : Env} {g : List ℕ} (i : Inv ρ g) (t : ScalarType) (o : Binary) (l r : ℕ) (k : Callable g (binary t o l r)) (c : ℕ)
+pub right-claim : {ρ : World} {g : List ℕ} (i : Inv ρ g) (t : ScalarType) (o : Binary) (l r : ℕ) (k : Callable g (binary t o l r)) (c : ℕ)
     → literal g r ≡ some c → (p : Plan) → rightPlan t o l r c ≡ some p → Claim ρ g t (binaryMeans t o (value ρ g l) (value ρ g r)) p
 right-claim i t o l r k c lit =
     each-or (Asked i t o l r k) (provided (eqb c 0) (zeroPlan t o l))
@@ -357,7 +358,7 @@ right-claim i t o l r k c lit =
 
 -- ---- an operation by a constant of an operation by a constant
 
-module _ {ρ : Env} {g : List ℕ} (i : Inv ρ g) (w : ℕ) (o : Binary) (l r : ℕ) (k : Callable g (binary (ty.Bits w) o l r)) (b : ℕ) (lit : literal g r ≡ some b)
+module _ {ρ : World} {g : List ℕ} (i : Inv ρ g) (w : ℕ) (o : Binary) (l r : ℕ) (k : Callable g (binary (ty.Bits w) o l r)) (b : ℕ) (lit : literal g r ≡ some b)
     (c : Chain) (f : Linked g l c) where
   -- its value, if there is one, by the base's
   pair-means : typeAt g l ≡ ty.Bits w → (v : ℕ) → binaryMeans (ty.Bits w) o (value ρ g l) (value ρ g r) ≡ some v
@@ -396,7 +397,7 @@ module _ {ρ : Env} {g : List ℕ} (i : Inv ρ g) (w : ℕ) (o : Binary) (l r : 
             k .0,
             chain-here i l (k .1) c f .0,
             m .0 (typeAt g (c .base)) (ty.Bits w) (ty.Bits w) ∙ ap (λ (a : ScalarType). sameTypes a (ty.Bits w) (ty.Bits w)) (s .2) ∙ bits-typed w,
-            λ v d.
+            λ sure v d.
                 let z = pair-means (s .0) v d in
                 let n : evaluateBinary o (ty.Bits w) (z .0) b ≡ evaluateBinary o (ty.Bits w) (z .1) u =
                 m .1 (ty.Bits w) (z .1) (c .value) b (z .0) u (ap (λ (a : Binary). evaluateBinary a (ty.Bits w) (z .1) (c .value)) (sym q) ∙ z .3) e in
@@ -415,7 +416,7 @@ module _ {ρ : Env} {g : List ℕ} (i : Inv ρ g) (w : ℕ) (o : Binary) (l r : 
         refl,
         bits-number (k .0) (bitAnd (c .value) b),
         bits-typed w,
-        λ v e.
+        λ sure v e.
             let z = pair-means (s .0) v e in
             let u = reduced (ty.Bits w) (bitAnd (z .1) b) in
             let n = reduced (ty.Bits w) (bitAnd (c .value) b) in
@@ -442,7 +443,7 @@ module _ {ρ : Env} {g : List ℕ} (i : Inv ρ g) (w : ℕ) (o : Binary) (l r : 
       let h = tests (sameBinary (c .op) bi.Or) (sameBinary o bi.And) d in
       each-some (Asked i (ty.Bits w) o l r k) _ (and-or-claim (binary-is (c .op) bi.Or (h .0)) (binary-is o bi.And (h .1)))))
 
-pub mask-claim : {ρ : Env} {g : List ℕ} (i : Inv ρ g) (t : ScalarType) (o : Binary) (l r : ℕ) (k : Callable g (binary t o l r)) (c : ℕ)
+pub mask-claim : {ρ : World} {g : List ℕ} (i : Inv ρ g) (t : ScalarType) (o : Binary) (l r : ℕ) (k : Callable g (binary t o l r)) (c : ℕ)
     → literal g r ≡ some c → (p : Plan) → maskPlan g t o l r c ≡ some p → Claim ρ g t (binaryMeans t o (value ρ g l) (value ρ g r)) p
 mask-claim i ty.Bool o l r k c lit = each-none _
 mask-claim {ρ} {g} i (ty.Bits w) o l r k c lit =

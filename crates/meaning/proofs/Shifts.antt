@@ -35,7 +35,8 @@ use Rattle.native.specs.Typing.{isNumber}
 use Rattle.plan.specs.Plan as plan
 use Rattle.plan.specs.Plan.{Plan}
 use Rattle.plan_binary.specs.Binary.{isShiftedOut, backShift, shiftTwice, shiftBy, shiftPlan}
-use Rattle.meaning.specs.Value.{Env, size, ofType, valued, andThen, binaryMeans, sliceMeans, value}
+use Rattle.meaning.specs.Value.{size, ofType, valued, andThen, binaryMeans, sliceMeans}
+use Rattle.meaning.proofs.Worlds.{World, value}
 use Rattle.meaning.proofs.Constants.{low-valued}
 use Rattle.meaning.proofs.Answers.{given-is, by-test, binary-is, of-any, by-given, Each, each-some}
 use Rattle.meaning.proofs.Invariant.{shiftable, storedTyped, Inv}
@@ -46,18 +47,18 @@ use Rattle.meaning.proofs.Field.{literal-value, linked, chain-here, cha
 
 -- ---- the start of a chain of Refines
 
-module _ {ρ : Env} {g : List ℕ} (i : Inv ρ g) where
-  down-value : (k n : ℕ) → n < countOf g → (down g k n < countOf g) × (value ρ g n ≡ value ρ g (down g k n))
-  down-value zero n l = (l, refl)
+module _ {ρ : World} {g : List ℕ} (i : Inv ρ g) where
+  down-value : (k n : ℕ) → n < countOf g → (down g k n < countOf g) × (ρ .sure → value ρ g n ≡ value ρ g (down g k n))
+  down-value zero n l = (l, λ sure. refl)
   down-value (suc k) n l =
-      by-given (λ (m : ℕ). (m < countOf g) × (value ρ g n ≡ value ρ g m)) (refinedAt g n)
+      by-given (λ (m : ℕ). (m < countOf g) × (ρ .sure → value ρ g n ≡ value ρ g m)) (refinedAt g n)
       (λ p e.
       let d = refine-value i n l p e in
       let q = down-value k p (let b = d .0 in omega arith) in
-      (q .0, d .1 ∙ q .1))
-      (λ e. (l, refl))
+      (q .0, λ sure. d .1 sure ∙ q .1 sure))
+      (λ e. (l, λ sure. refl))
 
-  pub origin-value : (n : ℕ) → n < countOf g → (origin g n < countOf g) × (value ρ g n ≡ value ρ g (origin g n))
+  pub origin-value : (n : ℕ) → n < countOf g → (origin g n < countOf g) × (ρ .sure → value ρ g n ≡ value ρ g (origin g n))
   unfolding origin
   origin-value n l = down-value LIMIT n l
 
@@ -117,12 +118,12 @@ out-wide o w c b wide e =
     ⊎-elim (λ q. let p = leb-true 128 c q in omega arith) (λ q. leb-true w c (tests (leb w c) _ q .0)) (either (leb 128 c) _ e)
 
 -- a node that is its base shifted left, in Bits(w)
-record Shifted (ρ : Env) (g : List ℕ) (w n : ℕ) (c : Chain) : Type 0 where
+record Shifted (ρ : World) (g : List ℕ) (w n : ℕ) (c : Chain) : Type 0 where
   here : c .base < countOf g
   typed : shiftable (typeAt g (c .base)) (ty.Bits w) ≡ true
-  means : (v : ℕ) → value ρ g n ≡ some v → (x : ℕ) × (value ρ g (c .base) ≡ some x) × (v ≡ x * 2 ^ (c .value) % 2 ^ w)
+  means : ρ .sure → (v : ℕ) → value ρ g n ≡ some v → (x : ℕ) × (value ρ g (c .base) ≡ some x) × (v ≡ x * 2 ^ (c .value) % 2 ^ w)
 
-module _ {ρ : Env} {g : List ℕ} (i : Inv ρ g) (w : ℕ) (wide : w ≤ 128) where
+module _ {ρ : World} {g : List ℕ} (i : Inv ρ g) (w : ℕ) (wide : w ≤ 128) where
   chain-shifted : (n : ℕ) → n < countOf g → typeAt g n ≡ ty.Bits w → (c : Chain) → chainAt g n ≡ some c → c .op ≡ bi.ShiftLeft → Shifted ρ g w n c
   chain-shifted n l t c e s =
       let f = linked g n c e in
@@ -131,7 +132,7 @@ module _ {ρ : Env} {g : List ℕ} (i : Inv ρ g) (w : ℕ) (wide : w ≤ 128) w
       record {
         here = chain-here i n l c f .0;
         typed = tests (shiftable (typeAt g (c .base)) (ty.Bits w)) (isNumber (typeAt g (f .constant))) k .0;
-        means = λ v m.
+        means = λ sure v m.
             let d = chain-means i n l c f v m in
             (d .0, d .1, some-is (sym (d .2) ∙ (λ z. evaluateBinary (s z) (t z) (d .0) (c .value)) ∙ left-value w wide (d .0) (c .value)));
       }
@@ -153,7 +154,7 @@ module _ {ρ : Env} {g : List ℕ} (i : Inv ρ g) (w : ℕ) (wide : w ≤ 128) w
       out-claim h = (
         refl,
         bits-number wide 0,
-        covers (some (0 % 2 ^ w)) (λ x e. ap some (mod-eq-of-lt (pow-pos w) ∙ sym (h x e))),
+        λ sure. covers (some (0 % 2 ^ w)) (λ x e. ap some (mod-eq-of-lt (pow-pos w) ∙ sym (h x e))),
       )
 
       by-claim : (w ≤ count → (x : ℕ) → value ρ g left ≡ some x → f x ≡ 0)
@@ -173,7 +174,7 @@ module _ {ρ : Env} {g : List ℕ} (i : Inv ρ g) (w : ℕ) (wide : w ≤ 128) w
           chain-shifted (origin g left) (v .0) (same-type (typeAt g (origin g left)) (ty.Bits w) (a .0)) c (b .1) (binary-is (c .op) bi.ShiftLeft (y .1)) in
           subst (Asked o) (some-is (d .1))
           (twice c (ltb-true (c .value) w (x .0)) (ltb-true count w (y .0))
-          (record { here = s .here; typed = s .typed; means = λ z m. s .means z (sym (v .1) ∙ m) })))
+          (record { here = s .here; typed = s .typed; means = λ sure z m. s .means sure z (sym (v .1 sure) ∙ m) })))
 
     -- ---- to the left
 
@@ -187,9 +188,9 @@ module _ {ρ : Env} {g : List ℕ} (i : Inv ρ g) (w : ℕ) (wide : w ≤ 128) w
       wide,
       s .here,
       rw (s .typed) refl,
-      covers bi.ShiftLeft (λ x. x * 2 ^ count % 2 ^ w) left-gives (binaryMeans (ty.Bits w) bi.ShiftLeft (value ρ g (c .base)) (some (c .value + count)))
+      λ sure. covers bi.ShiftLeft (λ x. x * 2 ^ count % 2 ^ w) left-gives (binaryMeans (ty.Bits w) bi.ShiftLeft (value ρ g (c .base)) (some (c .value + count)))
           (λ x e.
-          let p = s .means x e in
+          let p = s .means sure x e in
           ap (λ (a : Option ℕ). binaryMeans (ty.Bits w) bi.ShiftLeft a (some (c .value + count))) (p .1) ∙ left-means w wide (p .0) (c .value + count)
           ∙ ap some (sym (ap (λ (n : ℕ). n * 2 ^ count % 2 ^ w) (p .2) ∙ shift-more (p .0) (c .value) count w))),
     )
@@ -213,9 +214,9 @@ module _ {ρ : Env} {g : List ℕ} (i : Inv ρ g) (w : ℕ) (wide : w ≤ 128) w
           (omega arith, s .here),
           refl,
           wide,
-          right-covers (andThen (sliceMeans (ty.Bits (w - count)) (count - c .value) (value ρ g (c .base))) (valued (ty.Bits w)))
+          λ sure. right-covers (andThen (sliceMeans (ty.Bits (w - count)) (count - c .value) (value ρ g (c .base))) (valued (ty.Bits w)))
               (λ x e.
-              let p = s .means x e in
+              let p = s .means sure x e in
               ap (λ (a : Option ℕ). andThen (sliceMeans (ty.Bits (w - count)) (count - c .value) a) (valued (ty.Bits w))) (p .1)
               ∙ ap (λ (a : Option ℕ). andThen a (valued (ty.Bits w))) (low-valued (w - count) (p .0 / 2 ^ (count - c .value)))
               ∙ low-valued w (p .0 / 2 ^ (count - c .value) % 2 ^ (w - count))
@@ -228,9 +229,9 @@ module _ {ρ : Env} {g : List ℕ} (i : Inv ρ g) (w : ℕ) (wide : w ≤ 128) w
           wide,
           count-number (c .value - count) (omega arith),
           le-leb (w - c .value) w (omega arith),
-          right-covers (binaryMeans (ty.Bits w) bi.ShiftLeft (sliceMeans (ty.Bits (w - c .value)) 0 (value ρ g (c .base))) (some (c .value - count)))
+          λ sure. right-covers (binaryMeans (ty.Bits w) bi.ShiftLeft (sliceMeans (ty.Bits (w - c .value)) 0 (value ρ g (c .base))) (some (c .value - count)))
               (λ x e.
-              let p = s .means x e in
+              let p = s .means sure x e in
               let y : ℕ = p .0 / 2 ^ 0 % 2 ^ (w - c .value) in
               ap (λ (a : Option ℕ). binaryMeans (ty.Bits w) bi.ShiftLeft (sliceMeans (ty.Bits (w - c .value)) 0 a) (some (c .value - count))) (p .1)
               ∙ ap (λ (a : Option ℕ). binaryMeans (ty.Bits w) bi.ShiftLeft a (some (c .value - count))) (low-valued (w - c .value) (p .0 / 2 ^ 0))
@@ -248,7 +249,7 @@ module _ {ρ : Env} {g : List ℕ} (i : Inv ρ g) (w : ℕ) (wide : w ≤ 128) w
         ap (λ (n : ℕ). n % 2 ^ w) (sym (right-all w count x (subst (λ (h : ScalarType). x < size h) t (value-small i left ll x e)) l)) ∙ mod-eq-of-lt (pow-pos w))
         right-again
 
-module _ {ρ : Env} {g : List ℕ} (i : Inv ρ g) (left right : ℕ) (ll : left < countOf g) (lr : right < countOf g) where
+module _ {ρ : World} {g : List ℕ} (i : Inv ρ g) (left right : ℕ) (ll : left < countOf g) (lr : right < countOf g) where
   pub shift-claim : (t : ScalarType) → typeWidth t ≤ 128 → (o : Binary) → storedTyped o (typeAt g left) (typeAt g right) t ≡ true → (known : Option ℕ)
       → literal g right ≡ known → (p : Plan) → shiftPlan g t o left known ≡ some p → Claim ρ g t (binaryMeans t o (value ρ g left) (value ρ g right)) p
   shift-claim ty.Bool wide o typed known e p q = absurd (none-some q)

@@ -35,7 +35,8 @@ use Rattle.plan.specs.Plan.{Plan}
 use Rattle.plan_slice.specs.Slice.{lowered, boundedPlan, newSlice, sliceConcat, sliceOperation, slicePart, slicePlan, sliceFirst}
 use Rattle.build.specs.Rest.{restPlan}
 use Rattle.bits.proofs.Slices.{slice-slice, slice-high, slice-low, slice-split}
-use Rattle.meaning.specs.Value.{Env, size, valued, andThen, sliceMeans, concatMeans, value}
+use Rattle.meaning.specs.Value.{size, valued, andThen, sliceMeans, concatMeans}
+use Rattle.meaning.proofs.Worlds.{World, value}
 use Rattle.meaning.proofs.Values.{typed-is, then-is, means-small}
 use Rattle.meaning.proofs.Answers.{by-test, by-provided, by-given}
 use Rattle.meaning.proofs.Invariant.{Inv, inv-width, ext-here, ext-value, Kept}
@@ -81,7 +82,7 @@ slice-covers : (w o : ℕ) (a b : Option ℕ) → ((x : ℕ) → a ≡ some x �
 slice-covers w o a b f v e =
     let p = then-is a (λ x. valued (ty.Bits w) (x / 2 ^ o)) v e in f (p .0) (p .1) ∙ ap some (sym (low-is w (p .0 / 2 ^ o) v (p .2)))
 
-module _ {ρ : Env} {g : List ℕ} (i : Inv ρ g) (n o w : ℕ) (l : n < countOf g) (wide : w ≤ 128) where
+module _ {ρ : World} {g : List ℕ} (i : Inv ρ g) (n o w : ℕ) (l : n < countOf g) (wide : w ≤ 128) where
   abbrev Asked : Plan → Type 0
   Asked p = Claim ρ g (ty.Bits w) (sliceMeans (ty.Bits w) o (value ρ g n)) p
 
@@ -89,25 +90,25 @@ module _ {ρ : Env} {g : List ℕ} (i : Inv ρ g) (n o w : ℕ) (l : n < countOf
   Sliced b = (x : ℕ) → value ρ g n ≡ some x → b ≡ some (x / 2 ^ o % 2 ^ w)
 
   -- a constant
-  number-claim : (c : ℕ) → ((x : ℕ) → value ρ g n ≡ some x → x / 2 ^ o ≡ c) → Asked (plan.constant (ty.Bits w) c)
+  number-claim : (c : ℕ) → (ρ .sure → (x : ℕ) → value ρ g n ≡ some x → x / 2 ^ o ≡ c) → Asked (plan.constant (ty.Bits w) c)
   number-claim c f = (
     refl,
     bits-number wide c,
-    slice-covers w o (value ρ g n) (some (c % 2 ^ w)) (λ x m. ap (λ (k : ℕ). some (k % 2 ^ w)) (sym (f x m))),
+    λ sure. slice-covers w o (value ρ g n) (some (c % 2 ^ w)) (λ x m. ap (λ (k : ℕ). some (k % 2 ^ w)) (sym (f sure x m))),
   )
 
   -- another slice
   tail-claim : (m p : ℕ) → m < countOf g → Sliced (sliceMeans (ty.Bits w) p (value ρ g m)) → Asked (plan.slice m p w)
-  tail-claim m p h f = ((wide, h), refl, slice-covers w o (value ρ g n) (sliceMeans (ty.Bits w) p (value ρ g m)) f)
+  tail-claim m p h f = ((wide, h), refl, λ sure. slice-covers w o (value ρ g n) (sliceMeans (ty.Bits w) p (value ρ g m)) f)
 
   -- ---- by the range
 
   module _ (a : Interval) (e : rangeAt g n ≡ some a) (up : nonnegative a ≡ true) where
-    none-kept : eqb (lowered (residue 128 (a .high)) o) 0 ≡ true → (x : ℕ) → value ρ g n ≡ some x → x / 2 ^ o ≡ 0
-    none-kept z x m =
+    none-kept : eqb (lowered (residue 128 (a .high)) o) 0 ≡ true → ρ .sure → (x : ℕ) → value ρ g n ≡ some x → x / 2 ^ o ≡ 0
+    none-kept z sure x m =
         let small = value-pattern i n l x m in
         by (a .high) (eqb-true (lowered (residue 128 (a .high)) o) 0 z) (i .ends n l a e .high)
-        (any-within (typeAt g n) x a small (i .ends n l a e) up (i .ranged n l x m a e) (ty.Bits 0) .below)
+        (any-within (typeAt g n) x a small (i .ends n l a e) up (i .ranged n l sure x m a e) (ty.Bits 0) .below)
       where
         by : (h : ℤ) → lowered (residue 128 h) o ≡ 0 → mag h < 2 ^ 127 → pos x ≤ℤ h → x / 2 ^ o ≡ 0
         by (pos k) z s b =
@@ -130,7 +131,7 @@ module _ {ρ : Env} {g : List ℕ} (i : Inv ρ g) (n o w : ℕ) (l : n < countOf
       by-provided Decided (nonnegative a)
       (λ up.
       by-test Decided (eqb (lowered (residue 128 (a .high)) o) 0) (λ z. number-claim 0 (none-kept a e up z))
-      (λ z. by-provided Decided (both (eqb o 0) (insideBits w a)) (λ f. ((wide, l), refl, start-covers (eqb-true o 0 (tests (eqb o 0) _ f .0)))) k)) k
+      (λ z. by-provided Decided (both (eqb o 0) (insideBits w a)) (λ f. ((wide, l), refl, λ sure. start-covers (eqb-true o 0 (tests (eqb o 0) _ f .0)))) k)) k
     where
       Decided : Option Plan → Type 0
       Decided p = Asked (given p (λ q. q) d)
@@ -154,11 +155,11 @@ module _ {ρ : Env} {g : List ℕ} (i : Inv ρ g) (n o w : ℕ) (l : n < countOf
       parameter = wide;
       valid = type-valid (ty.Bits w);
       typed = refl;
-      refined = tt;
+      refined = λ sure. tt;
       ends = type-ends (ty.Bits w);
-      within = λ v q. type-within (ty.Bits w) v (means-small ρ (ty.Bits w) (node.slice n o w) (value ρ g) v q);
+      within = λ sure v q. type-within (ty.Bits w) v (means-small (ρ .env) (ty.Bits w) (node.slice n o w) (value ρ g) v q);
     },
-    λ v q. q,
+    λ sure v q. q,
   )
 
   inner-claim : (m p u : ℕ) → operationAt g n ≡ node.slice m p u → o + w ≤ u → Asked (plan.slice m (p + o) w)
@@ -224,7 +225,7 @@ module _ {ρ : Env} {g : List ℕ} (i : Inv ρ g) (n o w : ℕ) (l : n < countOf
         wide,
         rw (le-leb (v - o) w (omega arith), eq-eqb (w - (v - o)) (w - (v - o)) refl, eq-eqb (v - o) (v - o) refl) refl,
         refl,
-        slice-covers w o (value ρ g n)
+        λ sure. slice-covers w o (value ρ g n)
             (concatMeans (ty.Bits w) (v - o) (sliceMeans (ty.Bits (w - (v - o))) 0 (value ρ g h)) (sliceMeans (ty.Bits (v - o)) o (value ρ g j)))
             (λ x q.
             let (a, b, ea, eb, sb, s) = d .parts x q in
@@ -248,7 +249,7 @@ module _ {ρ : Env} {g : List ℕ} (i : Inv ρ g) (n o w : ℕ) (l : n < countOf
   part-claim : Asked (slicePart g n o w)
   part-claim =
       by-test Asked (one (leb 128 o) (above (typeAt g n) o))
-      (λ e. number-claim 0 (λ x m.
+      (λ e. number-claim 0 (λ sure x m.
       ⊎-elim (λ f. sym (right-all 128 o x (value-pattern i n l x m) (leb-true 128 o f)))
       (λ f. above-none (typeAt g n) x o (value-small i n l x m) f) (either (leb 128 o) (above (typeAt g n) o) e)))
       (λ e.
@@ -259,7 +260,7 @@ module _ {ρ : Env} {g : List ℕ} (i : Inv ρ g) (n o w : ℕ) (l : n < countOf
       record {
         here = l;
         type = s;
-        means = slice-covers w o (value ρ g n) (value ρ g n)
+        means = λ sure. slice-covers w o (value ρ g n) (value ρ g n)
             (λ x m.
             let q : x < 2 ^ w = subst (λ (r : ScalarType). x < size r) s (value-small i n l x m) in
             m ∙ ap some (sym (ap (λ (k : ℕ). k % 2 ^ w) (at-zero x o (eqb-true o 0 (c .0))) ∙ mod-eq-of-lt q)));
@@ -274,11 +275,11 @@ module _ {ρ : Env} {g : List ℕ} (i : Inv ρ g) (n o w : ℕ) (l : n < countOf
   slice-constant-claim c e =
       let m : value ρ g n ≡ some c = literal-value ρ g i n c l e in
       number-claim (lowered c o)
-      (λ x q. ap (λ (k : ℕ). k / 2 ^ o) (some-is (sym q ∙ m)) ∙ sym (lowered-is c o (value-pattern i n l c m)))
+      (λ sure x q. ap (λ (k : ℕ). k / 2 ^ o) (some-is (sym q ∙ m)) ∙ sym (lowered-is c o (value-pattern i n l c m)))
 
 -- ---- what slice does first
 
-module _ {ρ : Env} {g : List ℕ} (i : Inv ρ g) (n o w : ℕ) (l : n < countOf g) (wide : w ≤ 128) where
+module _ {ρ : World} {g : List ℕ} (i : Inv ρ g) (n o w : ℕ) (l : n < countOf g) (wide : w ≤ 128) where
   -- where it goes on
   rest-claim : (h : List ℕ) → Kept ρ g h → Claim ρ h (ty.Bits w) (sliceMeans (ty.Bits w) o (value ρ g n)) (slicePlan h n o w)
   rest-claim h k =
@@ -291,4 +292,4 @@ module _ {ρ : Env} {g : List ℕ} (i : Inv ρ g) (n o w : ℕ) (l : n < countOf
       by-given (FirstClaim ρ g (ty.Bits w) (sliceMeans (ty.Bits w) o (value ρ g n))) (literal g n) (slice-constant-claim i n o w l wide)
       (λ e.
       by-test (FirstClaim ρ g (ty.Bits w) (sliceMeans (ty.Bits w) o (value ρ g n))) (eqb o 0)
-      (λ z. (((wide, l), refl, start-covers i n o w l wide (eqb-true o 0 z)), rest-claim)) (λ z. slice-plan-claim i n o w l wide))
+      (λ z. (((wide, l), refl, λ sure. start-covers i n o w l wide (eqb-true o 0 z)), rest-claim)) (λ z. slice-plan-claim i n o w l wide))

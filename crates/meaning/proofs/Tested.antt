@@ -25,7 +25,8 @@ use Rattle.build.specs.Build.{call, binary, byConstant, rangeProg, isTestable, 
 use Rattle.native.specs.Request as request
 use Rattle.native.specs.Request.{UNITS}
 use Rattle.bits.proofs.Sums.{Wrap, under, over, wrap, sub-exact}
-use Rattle.meaning.specs.Value.{Env, size, ofType, binaryMeans, value}
+use Rattle.meaning.specs.Value.{size, ofType, binaryMeans}
+use Rattle.meaning.proofs.Worlds.{World, value}
 use Rattle.meaning.specs.Book.{requestMeans}
 use Rattle.meaning.proofs.Answers.{by-test}
 use Rattle.meaning.proofs.Modular.{sub-low}
@@ -61,7 +62,7 @@ module _ (S a low high : ℕ) (la : a < S) (ordered : low ≤ high) (lh : high <
 
 -- ---- the program
 
-module _ (ρ : Env) (g : List ℕ) (i : Inv ρ g) (v low high w : ℕ) (l : v < countOf g) (type : typeAt g v ≡ ty.Bits w) (is : isTestable w low high ≡ true) where
+module _ (ρ : World) (g : List ℕ) (i : Inv ρ g) (v low high w : ℕ) (l : v < countOf g) (type : typeAt g v ≡ ty.Bits w) (is : isTestable w low high ≡ true) where
   narrow : w ≤ 64
   narrow = leb-true w 64 (tests (leb w 64) _ is .0)
 
@@ -120,19 +121,19 @@ module _ (ρ : Env) (g : List ℕ) (i : Inv ρ g) (v low high w : ℕ) (l : v < 
               omega arith,
               f .here,
               ap (λ (s : ScalarType). storedTyped bi.LessEqualUnsigned s (ty.Bits w) ty.Bool) (f .type) ∙ eq-eqb w w refl,
-              λ x e.
+              λ sure x e.
                   let p = then-is (value ρ g v) (λ y. some (fromBool (both (leb low y) (leb y high)))) x e in
                   let small : p .0 < 2 ^ w = subst (λ (s : ScalarType). p .0 < size s) type (value-small i v l (p .0) (p .1)) in
                   let d : binaryMeans (ty.Bits w) bi.Sub (value ρ h v) (value ρ h c) ≡ some ((p .0 + (2 ^ w - low)) % 2 ^ w)
-                  = (λ k. binaryMeans (ty.Bits w) bi.Sub ((ext-value ρ (a .grows) v l ∙ p .1) k) (m k)) ∙ difference (p .0) small in
-                  (λ k. binaryMeans ty.Bool bi.LessEqualUnsigned (f .means ((p .0 + (2 ^ w - low)) % 2 ^ w) d k) (some (reduced (ty.Bits w) (u128.wrapping-sub high low))))
+                  = (λ k. binaryMeans (ty.Bits w) bi.Sub ((ext-value ρ (a .grows) v l ∙ p .1) k) (m sure k)) ∙ difference (p .0) small in
+                  (λ k. binaryMeans ty.Bool bi.LessEqualUnsigned (f .means sure ((p .0 + (2 ^ w - low)) % 2 ^ w) d k) (some (reduced (ty.Bits w) (u128.wrapping-sub high low))))
                   ∙ compared (p .0) small ∙ p .2,
             ),
       ))
 
 -- ---- unsigned_range
 
-module _ (ρ : Env) (builds : Sound ρ build) (g : List ℕ) (i : Inv ρ g) (v low high : ℕ) (l : v < countOf g) where
+module _ (ρ : World) (builds : Sound ρ build) (g : List ℕ) (i : Inv ρ g) (v low high : ℕ) (l : v < countOf g) where
   step-good : (t : ScalarType) → typeAt g v ≡ t → Good ρ ty.Bool (requestMeans (value ρ g) (request.unsignedRange v low high)) (rangeStep t v low high) g
   step-good ty.Bool e = tt
   step-good (ty.Bits w) e =

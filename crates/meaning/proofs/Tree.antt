@@ -12,7 +12,8 @@ use Rattle.graph.specs.Node.{typeAt}
 use Rattle.graph.specs.Insert.{Reply, id, nothing, room, units, inserted}
 use Rattle.build.specs.Build.{Call, identity, unary, modular, binary, slice, concat, Out, out, Prog, give, add, call, tries, step, onId, onOut, onNone, exec, run, build}
 use Rattle.native.specs.Typing.{unaryTyped, concatTyped}
-use Rattle.meaning.specs.Value.{Env, valued, andThen, unaryMeans, binaryMeans, sliceMeans, concatMeans, operationMeans, value}
+use Rattle.meaning.specs.Value.{valued, andThen, unaryMeans, binaryMeans, sliceMeans, concatMeans}
+use Rattle.meaning.proofs.Worlds.{World, operationMeans, value}
 use Rattle.meaning.proofs.Invariant.{storedTyped, Inv, Storable, Kept, kept-refl, kept-trans, Found, Answered, insert-good}
 
 -- ---- what a builder's call is to mean
@@ -45,16 +46,16 @@ Callable g (slice v o w) = (w ≤ 128) × (v < countOf g)
 Callable g (concat h l v w) = (v ≤ 128) × (w ≤ 128) × (h < countOf g) × (l < countOf g) × (concatTyped (typeAt g h) (typeAt g l) v w ≡ true)
 
 -- what is to hold of an outcome
-abbrev pub Ends : Env → List ℕ → ScalarType → Option ℕ → Out → Type 0
+abbrev pub Ends : World → List ℕ → ScalarType → Option ℕ → Out → Type 0
 Ends ρ g t w (out a u h) = Answered ρ g t w a h
 
 -- a builder whose every answer is its call's meaning
-abbrev pub Sound : Env → (Call → ℕ → List ℕ → Out) → Type 0
+abbrev pub Sound : World → (Call → ℕ → List ℕ → Out) → Type 0
 Sound ρ f = (c : Call) (u : ℕ) (g : List ℕ) → Inv ρ g → Callable g c → Ends ρ g (typeOf c) (meaning (value ρ g) c) (f c u g)
 
 -- ---- good programs for type t and value w
 
-module _ (ρ : Env) (t : ScalarType) (w : Option ℕ) where
+module _ (ρ : World) (t : ScalarType) (w : Option ℕ) where
   -- an answer
   abbrev pub Gives : Reply → List ℕ → Type 0
   Gives (id n) g = Found ρ t w n g
@@ -117,7 +118,7 @@ module _ (ρ : Env) (t : ScalarType) (w : Option ℕ) where
 
 -- ---- where every plan is good, every builder is sound, by induction on the units
 
-module _ (ρ : Env) (plans : (c : Call) (g : List ℕ) → Inv ρ g → Callable g c → Good ρ (typeOf c) (meaning (value ρ g) c) (step c g) g) where
+module _ (ρ : World) (plans : (c : Call) (g : List ℕ) → Inv ρ g → Callable g c → Good ρ (typeOf c) (meaning (value ρ g) c) (step c g) g) where
   run-sound : (t : ℕ) → Sound ρ (run t)
   unfolding run
   run-sound zero c u g i d = kept-refl i

@@ -10,7 +10,7 @@ use borrow.Author.Tests.{ltb-true, leb-true, ne-eqb}
 use lib.Bits.{and-lt, or-lt, xor-lt}
 use lib.Count.{leading-le, trailing-le}
 use lib.Dec.{ltb, leb, eqb, lit<}
-use lib.IntN.{ℤ, pos, negsuc, natAbs, negℤ, _-ℤ_}
+use lib.IntN.{ℤ, pos, natAbs, negℤ, _-ℤ_}
 use lib.Pow.{pow-pos, pow-mono}
 use lib.Signed.{mag, leZ, ltZ, _≤ℤ_, mag-shr}
 use Rattle.word.specs.Value.{residue, signed, fitted, only, quotient, minZ, maxZ}
@@ -18,7 +18,7 @@ use Rattle.word.proofs.Integer.{residue-lt, residue-pos, signed-low, half-twice
 use Rattle.range.specs.Interval.{Interval, both, nonnegative, typeInterval, filtered, signExtended, between, addInterval, subInterval, negInterval, cornersOf, mulInterval, divisible, quotInterval, cut, cutTo, remInterval, andInterval, udivInterval, atMost, uremInterval, clamped, shifted, shlInterval, shrInterval}
 use Rattle.range.specs.declared.ScalarType.{ScalarType}
 use Rattle.range.specs.declared.ScalarType.the-variants as ty
-use Rattle.range.proofs.Order.{orders, extremes, le-min, max-le}
+use Rattle.range.proofs.Order.{orders, extremes, le-min, max-le, between-small}
 use Rattle.range.proofs.Sound.{tests}
 use Rattle.range.proofs.Answers.{none-some, some-is, provided-is}
 use Rattle.range.proofs.Valid.{Valid, neg-full, add-full, sub-full, mul-full, quot-full, rem-full, and-full, udiv-full, urem-full, shl-full, shr-full, extended-full, integer-valid, filtered-valid, type-valid}
@@ -39,7 +39,8 @@ use Rattle.fold.specs.Range.{bothGiven, heldTo, bitsRule, integerRule, unaryRan
 use Rattle.native.specs.Typing.{isBits, isNumber, unaryTyped}
 use Rattle.plan.specs.Plan.{constantOr}
 use Rattle.plan.specs.Single.{isView, addOr, unaryPlan}
-use Rattle.meaning.specs.Value.{Env, size, valued, andThen, unaryMeans, value}
+use Rattle.meaning.specs.Value.{size, valued, andThen, unaryMeans}
+use Rattle.meaning.proofs.Worlds.{World, value}
 use Rattle.meaning.proofs.Values.{typed-is, then-is, truth-small}
 use Rattle.meaning.proofs.Invariant.{storedTyped, Ends, Inv, inv-width, inv-valid, Storable}
 use Rattle.meaning.proofs.Answers.{both-given, by-test, Each, each-none, each-some, each-provided, each-mapped, each-else}
@@ -108,13 +109,6 @@ min-small x y f g = by-test Small (ltZ y x) (λ e. g) (λ e. f)
 
 max-small : (x y : ℤ) → Small x → Small y → Small (maxZ x y)
 max-small x y f g = by-test Small (ltZ y x) (λ e. f) (λ e. g)
-
--- no integer between two is larger in size than both
-between-small : (h : ℕ) (x y z : ℤ) → x ≤ℤ z → z ≤ℤ y → mag x < h → mag y < h → mag z < h
-between-small h x (pos m) (pos n) p q f g = omega orders
-between-small h x (negsuc m) (pos n) p q f g = absurd (omega orders)
-between-small h (pos m) y (negsuc n) p q f g = absurd (omega orders)
-between-small h (negsuc m) y (negsuc n) p q f g = omega orders
 
 fitted-small : (z : ℤ) → Each Small (fitted z)
 fitted-small z u e = fitted-is z u e .1
@@ -460,24 +454,24 @@ extended-same w x p h l k =
     (ap some (ap (residue 128) (extended-field x w p h (omega arith) ∙ signed-low w x l) ∙ residue-pos 128 x k))
 
 -- where the operator leaves the value as it is
-view-covers : {ρ : Env} {g : List ℕ} → Inv ρ g → (n : ℕ) → n < countOf g → (t : ScalarType) (o : Unary) → unaryTyped o (typeAt g n) t ≡ true
-    → isView o (typeAt g n) (rangeAt g n) ≡ true → Covers (unaryMeans t o (value ρ g n)) (andThen (value ρ g n) (valued t))
-view-covers i n l t un.BoolNot d e = absurd (false≢true e)
-view-covers i n l t un.BitNot d e = absurd (false≢true e)
-view-covers i n l t un.Negate d e = absurd (false≢true e)
-view-covers {ρ} {g} i n l t (un.Truncate w) d e = rw (same-type t (ty.Bits w) d) (covers-truncate w (value ρ g n))
-view-covers {ρ} {g} i n l t (un.SignExtend w) d e = λ v q.
+view-covers : {ρ : World} {g : List ℕ} → Inv ρ g → (n : ℕ) → n < countOf g → (t : ScalarType) (o : Unary) → unaryTyped o (typeAt g n) t ≡ true
+    → isView o (typeAt g n) (rangeAt g n) ≡ true → ρ .sure → Covers (unaryMeans t o (value ρ g n)) (andThen (value ρ g n) (valued t))
+view-covers i n l t un.BoolNot d e sure = absurd (false≢true e)
+view-covers i n l t un.BitNot d e sure = absurd (false≢true e)
+view-covers i n l t un.Negate d e sure = absurd (false≢true e)
+view-covers {ρ} {g} i n l t (un.Truncate w) d e sure = rw (same-type t (ty.Bits w) d) (covers-truncate w (value ρ g n))
+view-covers {ρ} {g} i n l t (un.SignExtend w) d e sure = λ v q.
     let (p, c) = tests (ltb 0 w) _ e in
     let (h, f) = tests (leb w 128) _ c in
     let k : w ≤ 128 = leb-true w 128 h in
     let (a, r, inside) = fits-facts (w - 1) (rangeAt g n) f in
     let (x, xs, m) = then-is (value ρ g n) (λ x. andThen (evaluateUnary (un.SignExtend w) x) (valued t)) v q in
-    let s = extended-same w x (ltb-true 0 w p) k (fits-small i n l (w - 1) (omega arith) a r inside x xs) (value-pattern i n l x xs) in
+    let s = extended-same w x (ltb-true 0 w p) k (fits-small i n l (w - 1) (omega arith) a r inside sure x xs) (value-pattern i n l x xs) in
     rw (xs) (rw s at m)
-view-covers i n l t (un.LeadingZeros w) d e = absurd (false≢true e)
-view-covers i n l t (un.TrailingZeros w) d e = absurd (false≢true e)
+view-covers i n l t (un.LeadingZeros w) d e sure = absurd (false≢true e)
+view-covers i n l t (un.TrailingZeros w) d e sure = absurd (false≢true e)
 
-module _ {ρ : Env} {g : List ℕ} (i : Inv ρ g) (n : ℕ) (l : n < countOf g) (t : ScalarType) (o : Unary) (wide : typeWidth t ≤ 128)
+module _ {ρ : World} {g : List ℕ} (i : Inv ρ g) (n : ℕ) (l : n < countOf g) (t : ScalarType) (o : Unary) (wide : typeWidth t ≤ 128)
     (width : unaryWidth o ≤ 128) (typed : unaryTyped o (typeAt g n) t ≡ true) where
   pub unary-constant-claim : (c : ℕ) → literal g n ≡ some c → Claim ρ g t (unaryMeans t o (value ρ g n)) (constantOr t (evaluateUnary o c))
   unary-constant-claim c e = go (evaluateUnary o c) refl
@@ -490,7 +484,7 @@ module _ {ρ : Env} {g : List ℕ} (i : Inv ρ g) (n : ℕ) (l : n < countOf g) 
       go (some u) q = (
         refl,
         record { width = wide; small = unary-small o (typeAt g n) t c u typed (inv-width i n l) wide (value-small i n l c same) q },
-        λ v f.
+        λ sure v f.
             let m : valued t u ≡ some v = rw (same, q) at f in
             ap some (sym (typed-is t (reduced t u) v m .0)),
       )
@@ -512,19 +506,19 @@ module _ {ρ : Env} {g : List ℕ} (i : Inv ρ g) (n : ℕ) (l : n < countOf g) 
         parameter = width;
         valid = unary-valid o t (typeAt g n) (rangeAt g n) r typed (inv-valid i n l) e;
         typed = typed;
-        refined = tt;
+        refined = λ sure. tt;
         ends = ends;
-        within = λ v q.
+        within = λ sure v q.
             let (x, xs, f) = then-is (value ρ g n) (λ x. andThen (evaluateUnary o x) (valued t)) v q in
             let (u, us, h) = then-is (evaluateUnary o x) (valued t) v f in
             let (s, k) = typed-is t (reduced t u) v h in
-            unary-within o t (typeAt g n) (rangeAt g n) r x u v typed (i .ranged n l x xs) us s k e;
+            unary-within o t (typeAt g n) (rangeAt g n) r x u v typed (i .ranged n l sure x xs) us s k e;
       }
 
   add-claim : (r : Option (Option Interval)) → unaryRange t o (rangeAt g n) ≡ r
       → Claim ρ g t (unaryMeans t o (value ρ g n)) (addOr t r (node.unary o n))
   add-claim none e = tt
-  add-claim (some r) e = (refl, unary-storable r e, λ v q. q)
+  add-claim (some r) e = (refl, unary-storable r e, λ sure v q. q)
 
   pub unary-plan-claim : Claim ρ g t (unaryMeans t o (value ρ g n)) (unaryPlan g t o n)
   unfolding unaryPlan

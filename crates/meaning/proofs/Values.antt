@@ -42,6 +42,11 @@ pub then-is : (a : Option ℕ) (f : ℕ → Option ℕ) (v : ℕ) → andThen a 
 then-is none f v e = absurd (none-some e)
 then-is (some x) f v e = (x, refl, e)
 
+-- a value that is of the type stays
+pub then-typed : (t : ScalarType) (a : Option ℕ) → ((x : ℕ) → a ≡ some x → x < size t) → andThen a (ofType t) ≡ a
+then-typed t none h = refl
+then-typed t (some x) h = typed-of t x (h x refl)
+
 -- ---- values by the nodes below
 
 module _ (ρ : Env) (g h : List ℕ) where

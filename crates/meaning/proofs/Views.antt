@@ -31,11 +31,12 @@ use Rattle.fold.specs.Shape.{sameType, notNegative, fits}
 use Rattle.native.specs.Typing.{isNumber, sameTypes, arithmetic}
 use Rattle.plan.specs.Plan as plan
 use Rattle.plan.specs.Single.{viewPlan, identityPlan}
-use Rattle.meaning.specs.Value.{Env, size, integerOf, ofType, valued, andThen, unaryMeans, value}
+use Rattle.meaning.specs.Value.{size, integerOf, ofType, valued, andThen, unaryMeans}
+use Rattle.meaning.proofs.Worlds.{World, value}
 use Rattle.meaning.proofs.Values.{typed-is, typed-of, then-is, means-small}
 use Rattle.meaning.proofs.Invariant.{Ends, Inv, inv-width, inv-step, inv-valid, Storable}
-use Rattle.meaning.proofs.Constants.{pattern, valued-same, signed-parts, stored-low, stored-high}
-use Rattle.meaning.proofs.Answers.{by-test}
+use Rattle.meaning.proofs.Constants.{pattern, valued-same, signed-parts}
+use Rattle.meaning.proofs.Answers.{by-test, each-some}
 use Rattle.meaning.proofs.Plans.{Covers, Claim}
 
 -- ---- types and values of nodes
@@ -61,9 +62,9 @@ arithmetic-types a b t e =
     let q = same-types a b t (p .1) in
     (p .0, q .0, q .1)
 
-module _ {ρ : Env} {g : List ℕ} (i : Inv ρ g) (n : ℕ) (l : n < countOf g) (v : ℕ) (e : value ρ g n ≡ some v) where
+module _ {ρ : World} {g : List ℕ} (i : Inv ρ g) (n : ℕ) (l : n < countOf g) (v : ℕ) (e : value ρ g n ≡ some v) where
   pub value-small : v < size (typeAt g n)
-  value-small = means-small ρ (typeAt g n) (operationAt g n) (value ρ g) v (sym (inv-step i n l) ∙ e)
+  value-small = means-small (ρ .env) (typeAt g n) (operationAt g n) (value ρ g) v (sym (inv-step i n l) ∙ e)
 
   pub value-pattern : v < 2 ^ 128
   value-pattern = pattern (typeAt g n) v (inv-width i n l) value-small
@@ -144,7 +145,7 @@ covers-truncate w a x e =
 
 -- ---- identity
 
-module _ {ρ : Env} {g : List ℕ} (i : Inv ρ g) (v : ℕ) (l : v < countOf g) where
+module _ {ρ : World} {g : List ℕ} (i : Inv ρ g) (v : ℕ) (l : v < countOf g) where
   -- a value of the type asked for is itself
   pub seen : (t : ScalarType) → ((x : ℕ) → value ρ g v ≡ some x → x < size t) → Covers (andThen (value ρ g v) (valued t)) (value ρ g v)
   seen t small x e =
@@ -152,45 +153,43 @@ module _ {ρ : Env} {g : List ℕ} (i : Inv ρ g) (v : ℕ) (l : v < countOf g) 
       let q : p .0 ≡ x = some-is (sym (valued-same t (p .0) (small (p .0) (p .1))) ∙ p .2) in
       p .1 ∙ ap some q
 
-  module _ (t : ScalarType) (wide : typeWidth t ≤ 128) (a : Interval) (e : rangeAt g v ≡ some a) (up : nonnegative a ≡ true)
-      (inside : insideType t a ≡ true) (small : (x : ℕ) → value ρ g v ≡ some x → x < size t) where
-    refine-storable : Storable ρ g t (rangeAt g v) (node.refine v)
-    refine-storable = record {
-      stored = record {
-        width = omega arith;
-        low = stored-low (rangeAt g v) (i .ends v l);
-        high = stored-high (rangeAt g v) (i .ends v l);
-        offset = omega arith;
-        parameter = omega arith;
-      };
-      width = wide;
-      below = omega arith;
-      offset = omega arith;
-      parameter = omega arith;
-      valid = λ b f. subst (Valid t) (some-is (sym e ∙ f)) (record { full = inv-valid i v l a e .full; inside = inside });
-      typed = tt;
-      refined = small;
-      ends = i .ends v l;
-      within = λ x q b f.
-          let p = then-is (value ρ g v) (ofType t) x q in
-          let same : p .0 ≡ x = sym (typed-is t (p .0) x (p .2) .0) in
-          let m : value ρ g v ≡ some x = p .1 ∙ ap some same in
-          let c : a ≡ b = some-is (sym e ∙ f) in
-          subst (λ (b : Interval). (integerOf t x) ∈ b) c
-          (any-within (typeAt g v) x a (value-pattern i v l x m) (i .ends v l a e) up (i .ranged v l x m a e) t);
-    }
+  -- a Refine of a type and with a range that its source's values have
+  pub refine-storable : (t : ScalarType) → typeWidth t ≤ 128 → (a : Interval) → Valid t a → Ends a
+      → (ρ .sure → (x : ℕ) → value ρ g v ≡ some x → (x < size t) × ((integerOf t x) ∈ a)) → Storable ρ g t (some a) (node.refine v)
+  refine-storable t wide a valid ends has = record {
+    stored = record { width = omega arith; low = ends .low; high = ends .high; offset = omega arith; parameter = omega arith };
+    width = wide;
+    below = omega arith;
+    offset = omega arith;
+    parameter = omega arith;
+    valid = each-some (Valid t) a valid;
+    typed = tt;
+    refined = λ sure x m. has sure x m .0;
+    ends = each-some Ends a ends;
+    within = λ sure x q.
+        let p = then-is (value ρ g v) (ofType t) x q in
+        let same : p .0 ≡ x = sym (typed-is t (p .0) x (p .2) .0) in
+        each-some (λ b. (integerOf t x) ∈ b) a (has sure x (p .1 ∙ ap some same) .1);
+  }
 
+  module _ (t : ScalarType) (wide : typeWidth t ≤ 128) (a : Interval) (e : rangeAt g v ≡ some a) (up : nonnegative a ≡ true)
+      (inside : insideType t a ≡ true) (small : ρ .sure → (x : ℕ) → value ρ g v ≡ some x → x < size t) where
     pub refine-claim : Claim ρ g t (andThen (value ρ g v) (valued t)) (plan.add t (rangeAt g v) (node.refine v))
     refine-claim = (
       refl,
-      refine-storable,
-      λ x q. let m = seen t small x q in rw m (typed-of t x (small x m)),
+      subst (λ (r : Option Interval). Storable ρ g t r (node.refine v)) (sym e)
+          (refine-storable t wide a (record { full = inv-valid i v l a e .full; inside = inside }) (i .ends v l a e)
+          (λ sure x m. (
+            small sure x m,
+            any-within (typeAt g v) x a (value-pattern i v l x m) (i .ends v l a e) up (i .ranged v l sure x m a e) t,
+          ))),
+      λ sure x q. let m = seen t (small sure) x q in rw m (typed-of t x (small sure x m)),
     )
 
   -- a value that fits Bits(w)
-  pub fits-small : (w : ℕ) → w ≤ 128 → (a : Interval) → rangeAt g v ≡ some a → insideBits w a ≡ true → (x : ℕ) → value ρ g v ≡ some x → x < 2 ^ w
-  fits-small w wide a e f x m =
-      inside-small (typeAt g v) x a (value-pattern i v l x m) (i .ends v l a e) (tests (nonnegative a) _ f .0) (i .ranged v l x m a e) w wide f
+  pub fits-small : (w : ℕ) → w ≤ 128 → (a : Interval) → rangeAt g v ≡ some a → insideBits w a ≡ true → ρ .sure → (x : ℕ) → value ρ g v ≡ some x → x < 2 ^ w
+  fits-small w wide a e f sure x m =
+      inside-small (typeAt g v) x a (value-pattern i v l x m) (i .ends v l a e) (tests (nonnegative a) _ f .0) (i .ranged v l sure x m a e) w wide f
 
   view-claim : (t : ScalarType) → typeWidth t ≤ 128 → Claim ρ g t (andThen (value ρ g v) (valued t)) (viewPlan t (rangeAt g v) v)
   view-claim ty.Bool wide =
@@ -204,12 +203,12 @@ module _ {ρ : Env} {g : List ℕ} (i : Inv ρ g) (v : ℕ) (l : v < countOf g) 
       (λ e.
       let f = fits-facts w (rangeAt g v) e in
       refine-claim (ty.Bits w) wide (f .0) (f .1) (tests (nonnegative (f .0)) _ (f .2) .0) (f .2) (fits-small w wide (f .0) (f .1) (f .2)))
-      (λ e. ((wide, wide, l, eq-eqb w w refl), refl, truncate-covers w (value ρ g v)))
+      (λ e. ((wide, wide, l, eq-eqb w w refl), refl, λ sure. truncate-covers w (value ρ g v)))
   view-claim ty.Integer wide =
       by-test (Claim ρ g ty.Integer (andThen (value ρ g v) (valued ty.Integer))) (notNegative (rangeAt g v))
       (λ e.
       let f = negative-facts (rangeAt g v) e in
-      refine-claim ty.Integer wide (f .0) (f .1) (f .2) refl (value-pattern i v l))
+      refine-claim ty.Integer wide (f .0) (f .1) (f .2) refl (λ sure. value-pattern i v l))
       (λ e. tt)
 
   pub identity-claim : (t : ScalarType) → typeWidth t ≤ 128 → Claim ρ g t (andThen (value ρ g v) (valued t)) (identityPlan g t v)
@@ -218,5 +217,5 @@ module _ {ρ : Env} {g : List ℕ} (i : Inv ρ g) (v : ℕ) (l : v < countOf g) 
       by-test (Claim ρ g t (andThen (value ρ g v) (valued t))) (sameType (typeAt g v) t)
       (λ e.
       let s : typeAt g v ≡ t = same-type (typeAt g v) t e in
-      record { here = l; type = s; means = seen t (λ x m. subst (λ (r : ScalarType). x < size r) s (value-small i v l x m)) })
+      record { here = l; type = s; means = λ sure. seen t (λ x m. subst (λ (r : ScalarType). x < size r) s (value-small i v l x m)) })
       (λ e. view-claim t wide)

@@ -3,7 +3,7 @@ use mathlib.Core.Path.{_≡_, refl, sym, ap, _∙_}
 use mathlib.Core.Bool.{Bool, true, false}
 use mathlib.Core.List.{List, [], _∷_}
 use mathlib.Core.Option.{Option, none, some}
-use Prim.Native.Nat.{ℕ, _^_, _<_}
+use Prim.Native.Nat.{ℕ, _-_, _^_, _<_}
 use native.Mathlib.Omega.{arith}
 use lib.Dec.{ltb}
 use lib.ListN.{length, set}
@@ -12,7 +12,7 @@ use Rattle.range.specs.declared.ScalarType.{ScalarType}
 use Rattle.graph.specs.Insert.{Reply, Made, made, constant, input, effect, interned, appended, foundOr, inserted}
 use Rattle.graph.specs.Layout.{LIMIT, countOf}
 use Rattle.graph.specs.Node.{Op, wordsOf}
-use Rattle.native.specs.Call.{Response, called, settled, leaves, finished, id, nothing, refused, answerNumber}
+use Rattle.native.specs.Call.{Response, called, settled, leaves, finished, id, nothing, done, refused, answerNumber}
 
 -- the region after a refusal is the one before it
 abbrev Kept : List ℕ → Made → Type 0
@@ -50,21 +50,29 @@ answers g h a b m e f k =
 
 -- ---- answers as numbers: no two share one
 
--- an id below 2 ^ 63, and a refusal from 1 to 2 ^ 63
+-- an id below 2 ^ 63, and a refusal from 1 to 2 ^ 63 - 2
 abbrev pub Small : Response → Type 0
 Small (id n) = n < 2 ^ 63
 Small nothing = Unit {0}
-Small (refused k) = (0 < k) × (k < 2 ^ 63)
+Small done = Unit {0}
+Small (refused k) = (0 < k) × (k < 2 ^ 63 - 1)
 
 pub number-unique : (a b : Response) → Small a → Small b → answerNumber a ≡ answerNumber b → a ≡ b
 number-unique (id m) (id n) f g e = ap id e
 number-unique (id m) nothing f g e = absurd (omega (arith, f))
+number-unique (id m) done f g e = absurd (omega (arith, f))
 number-unique (id m) (refused k) f g e = absurd (omega (arith, f, g))
 number-unique nothing (id n) f g e = absurd (omega (arith, g))
 number-unique nothing nothing f g e = refl
+number-unique nothing done f g e = absurd (omega arith)
 number-unique nothing (refused k) f g e = absurd (omega (arith, g))
+number-unique done (id n) f g e = absurd (omega (arith, g))
+number-unique done nothing f g e = absurd (omega arith)
+number-unique done done f g e = refl
+number-unique done (refused k) f g e = absurd (omega (arith, g))
 number-unique (refused j) (id n) f g e = absurd (omega (arith, f, g))
 number-unique (refused j) nothing f g e = absurd (omega (arith, f))
+number-unique (refused j) done f g e = absurd (omega (arith, f))
 number-unique (refused j) (refused k) f g e = ap refused (omega (arith, f, g))
 
 -- ---- two words stored

@@ -17,22 +17,25 @@ use Rattle.graph.specs.WellFormed.{isGraph}
 use Rattle.native.specs.declared.Answer.{Answer}
 use Rattle.native.specs.declared.Answer.the-variants as answer
 
--- a node, None, or a refusal by its number
+-- a node, None, a guard's Done, or a refusal by its number
 pub data Response : Type 0 where
   id : ℕ → Response
   nothing : Response
+  done : Response
   refused : ℕ → Response
 
 -- what an Answer stands for
 abbrev pub answerOf : Answer → Response
 answerOf (answer.Id i) = id (i .0)
 answerOf answer.None = nothing
+answerOf answer.Done = done
 answerOf (answer.Refused r) = refused (refusalNumber r)
 
 -- an answer as one number
 abbrev pub answerNumber : Response → ℕ
 answerNumber (id n) = n
 answerNumber nothing = 2 ^ 64 - 1
+answerNumber done = 2 ^ 63
 answerNumber (refused k) = 2 ^ 64 - 1 - k
 
 -- an answer, and the words of the region after the call

@@ -2,3 +2,4 @@ pub mod Call
 pub mod Typing
 pub mod Request
 pub mod Retain
+pub mod Guard

@@ -1,5 +1,6 @@
 // The calls: every question in order, then the work. A refusal leaves every lent word as it was.
 pub mod declare;
+pub mod guards;
 pub mod keep;
 pub mod look;
 pub mod operate;
@@ -12,10 +13,22 @@ ghost use Rattle.native.specs.Retain.{outcomeOf, outcomeNumber};
 use evaluate::Refusal;
 use graph::Built;
 use graph::NodeId;
+use guard::Guard;
 
-// A node, the Rust's None, or a refusal.
+// The number of Done.
+const DONE: u64 = 0x8000_0000_0000_0000;
+
+// A node, the Rust's None, a guard's Done, or a refusal.
 pub enum Answer {
     Id(NodeId),
+    None,
+    Done,
+    Refused(Refusal),
+}
+
+// A guard, the Rust's None, or a refusal.
+pub enum Guarded {
+    Some(Guard),
     None,
     Refused(Refusal),
 }
@@ -34,6 +47,7 @@ impl Answer {
         match self {
             Answer::Id(id) => id.0,
             Answer::None => u64::MAX,
+            Answer::Done => DONE,
             Answer::Refused(refusal) => u64::MAX - refusal.number(),
         }
     }

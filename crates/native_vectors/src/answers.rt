@@ -56,6 +56,11 @@ fn put_reply(reply: Reply, out: &mut [u8]) -> usize
             let at = put_text_in_room(b"kept ", out, 0);
             put_decimal(nodes, out, at)
         }
+        Reply::Done => put_text_in_room(b"done", out, 0),
+        Reply::Guard(guard) => {
+            let at = put_text_in_room(b"guard ", out, 0);
+            put_word_in_room(guard, out, at)
+        }
         Reply::Yes => put_text_in_room(b"yes", out, 0),
         Reply::No => put_text_in_room(b"no", out, 0),
     }

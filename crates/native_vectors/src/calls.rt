@@ -1,4 +1,6 @@
-// The calls by their kinds: 1 to 8 and 10 are document 01's records, 11 to 13 literal, resolve and is_graph, and from 16 on the words are handled.
+// The calls by their kinds: 1 to 10 are document 01's records, 11 to 15 literal, resolve, is_graph, guard and matches, and from 16 on the words
+// are handled.
+use crate::guards::guarded;
 use crate::lines::Fields;
 use crate::region::peek;
 use crate::region::poke;
@@ -34,6 +36,8 @@ pub(crate) enum Reply {
     None,
     Refused(u64),
     Kept(u64),
+    Done,
+    Guard(Word),
     Yes,
     No,
 }
@@ -65,10 +69,11 @@ fn range_of(flag: u64, min: Word, max: Word) -> MaybeRange {
     })
 }
 
-fn of_answer(answer: Answer) -> Reply {
+pub(crate) fn of_answer(answer: Answer) -> Reply {
     match answer {
         Answer::Id(id) => Reply::Id(id.0),
         Answer::None => Reply::None,
+        Answer::Done => Reply::Done,
         Answer::Refused(refusal) => Reply::Refused(refusal.number()),
     }
 }
@@ -81,7 +86,7 @@ fn of_evaluated(answer: Evaluated) -> Reply {
     }
 }
 
-fn of_bool(is: bool) -> Reply {
+pub(crate) fn of_bool(is: bool) -> Reply {
     if is { Reply::Yes } else { Reply::No }
 }
 
@@ -207,6 +212,7 @@ pub(crate) fn perform(words: &mut [u64], call: Fields) -> Outcome {
         1..=3 => declared(&mut words[0..len], call),
         4..=5 => operated(&mut words[0..len], call),
         6..=8 => parted(&mut words[0..len], call),
+        9 | 14..=15 => Outcome::Answered(guarded(&mut words[0..len], call)),
         10 => kept(words, call),
         11..=13 => looked(&words[0..len], kind, call.number),
         _ => handled(words, call),

@@ -2,6 +2,7 @@
 // It stops at a malformed line, and at the end of the input.
 mod answers;
 mod calls;
+mod guards;
 mod lines;
 mod region;
 mod retains;

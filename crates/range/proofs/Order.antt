@@ -10,7 +10,7 @@ use lib.Arith.{le→nltb}
 use lib.Dec.{T, ltb, nltb→le, leb·suc-suc}
 use lib.Ieee.Nearest.{div-mono}
 use lib.IntN.{ℤ, pos, negsuc, natAbs, negℤ, negℤ-negℤ, _+ℤ_, _*ℤ_, *ℤ-comm}
-use lib.Signed.{ltZ, leZ, quotZ, _≤ℤ_}
+use lib.Signed.{mag, ltZ, leZ, quotZ, _≤ℤ_}
 use Rattle.word.specs.Value.{isNeg, minZ, maxZ}
 use Rattle.word.specs.Step.{withSign, differ}
 use Rattle.word.proofs.Integer.{Difference, difference-add, difference-neg}
@@ -96,6 +96,13 @@ le-min a b c h k = chosen (λ (z : ℤ). c ≤ℤ z) (ltZ b a) k h
 
 pub max-le : (a b c : ℤ) → a ≤ℤ c → b ≤ℤ c → maxZ a b ≤ℤ c
 max-le a b c h k = chosen (λ (z : ℤ). z ≤ℤ c) (ltZ b a) h k
+
+-- no integer between two is larger in size than both
+pub between-small : (h : ℕ) (x y z : ℤ) → x ≤ℤ z → z ≤ℤ y → mag x < h → mag y < h → mag z < h
+between-small h x (pos m) (pos n) p q f g = omega orders
+between-small h x (negsuc m) (pos n) p q f g = absurd (omega orders)
+between-small h (pos m) y (negsuc n) p q f g = absurd (omega orders)
+between-small h (negsuc m) y (negsuc n) p q f g = omega orders
 
 -- ---- products and quotients
 

@@ -1,6 +1,7 @@
 -- The ranges of types, and those that the rules give, are not empty and lie inside their types. Assumes nothing.
 use mathlib.Core.Path.{_≡_, refl, subst}
 use mathlib.Core.Bool.{Bool, true, false}
+use mathlib.Core.Logic.{⊎-elim}
 use mathlib.Core.Option.{Option, some}
 use Prim.Native.Nat.{ℕ, _-_, _^_, _<_}
 use native.Mathlib.Omega.{arith}
@@ -16,7 +17,7 @@ use Rattle.range.specs.declared.ScalarType.{ScalarType}
 use Rattle.range.specs.declared.ScalarType.the-variants as ty
 use Rattle.range.proofs.Order.{orders, less-true, neg-parts}
 use Rattle.range.proofs.Answers.{none-some, some-is, provided-is}
-use Rattle.range.proofs.Sound.{tests, at-most, neg-in, add-in, sub-in, mul-in, quot-in, rem-in, and-in, udiv-in, urem-in, shl-in, shr-in}
+use Rattle.range.proofs.Sound.{tests, either, at-most, neg-in, add-in, sub-in, mul-in, quot-in, rem-in, and-in, udiv-in, urem-in, shl-in, shr-in}
 
 -- a range that question 1 allows at a type
 pub record Valid (t : ScalarType) (a : Interval) : Type 0 where
@@ -129,6 +130,26 @@ filtered-valid w a r f e =
     let p = provided-is _ (some a) e in
     let d = tests (nonnegative a) _ (tests (ltb w 128) _ (p .0) .1) in
     subst (Valid (ty.Bits w)) (some-is (p .1)) (record { full = f; inside = rw (d .0, d .1) (one-true (leb 128 w)) })
+
+-- a range inside one that a type allows, if it is not empty
+pub part-valid : (t : ScalarType) (a b : Interval) → Valid t a → a .low ≤ℤ b .low → b .low ≤ℤ b .high → b .high ≤ℤ a .high → Valid t b
+part-valid t a b v low full high = record { full = full; inside = by t (v .inside) }
+  where
+    bits : (w : ℕ) → insideBits w a ≡ true → insideBits w b ≡ true
+    bits w e =
+        let d = tests (nonnegative a) _ e in
+        let n = at-most (pos 0) (a .low) (d .0) in
+        rw (le-test {x = pos 0} {y = b .low} (omega orders))
+        (⊎-elim (λ q. rw q)
+        (λ q.
+        let m = at-most (a .high) (pos (2 ^ w - 1)) q in
+        rw (le-test {x = b .high} {y = pos (2 ^ w - 1)} (omega orders)) (one-true (leb 128 w)))
+        (either (leb 128 w) _ (d .1)))
+
+    by : (s : ScalarType) → insideType s a ≡ true → insideType s b ≡ true
+    by ty.Bool e = bits 1 e
+    by (ty.Bits w) e = bits w e
+    by ty.Integer e = refl
 
 pub type-valid : (t : ScalarType) (a : Interval) → typeInterval t ≡ some a → Valid t a
 unfolding bitsInterval

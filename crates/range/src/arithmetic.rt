@@ -12,7 +12,7 @@ use word::Signed;
 use word::Word;
 
 // The range between two results, if both are there.
-fn between(low: MaybeSigned, high: MaybeSigned) -> MaybeRange
+pub fn between(low: MaybeSigned, high: MaybeSigned) -> MaybeRange
     ensures { λ r. ⌜ intervalOf r ≡ between (valueOf low) (valueOf high) ⌝ }
 {
     let MaybeSigned::Some(min) = low else {

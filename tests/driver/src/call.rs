@@ -62,7 +62,29 @@ pub enum Call {
         id: u64,
     },
     IsGraph,
+    // What is expected, and whether 64 bits suffice, by 0 and 1.
+    AssumeGuard {
+        condition: u64,
+        expected: u64,
+    },
+    // `room` is the number of words lent for the guard.
+    Guard {
+        condition: u64,
+        expected: u64,
+        room: usize,
+    },
+    // It looks at no region.
+    Matches {
+        op: u64,
+        expected: u64,
+        host64: u64,
+        left: u128,
+        right: u128,
+    },
 }
+
+// The number of words of a guard: the operator's code, both ids, and what is expected and whether 64 bits suffice.
+pub const GUARD_WORDS: usize = 5;
 
 #[derive(Clone, Copy, Debug, PartialEq, Eq)]
 pub enum Answer {
@@ -73,6 +95,9 @@ pub enum Answer {
     Is(bool),
     // The nodes that a retain left.
     Kept(u64),
+    // A guard is assumed.
+    Done,
+    Guard([u64; GUARD_WORDS]),
     // A lent word outside the region was changed that had to stay.
     Spoilt,
 }
@@ -135,7 +160,7 @@ impl From<ScalarType> for TypeCode {
 }
 
 // The kinds of calls by their names.
-pub const KINDS: [&str; 11] = [
+pub const KINDS: [&str; 14] = [
     "constant",
     "input",
     "effect",
@@ -147,6 +172,9 @@ pub const KINDS: [&str; 11] = [
     "literal",
     "resolve",
     "is graph",
+    "assume guard",
+    "guard",
+    "matches",
 ];
 
 impl Call {
@@ -163,6 +191,9 @@ impl Call {
             Call::Literal { .. } => 8,
             Call::Resolve { .. } => 9,
             Call::IsGraph => 10,
+            Call::AssumeGuard { .. } => 11,
+            Call::Guard { .. } => 12,
+            Call::Matches { .. } => 13,
         };
         KINDS[place]
     }
@@ -185,6 +216,13 @@ impl Call {
             && match *self {
                 Call::Unary { op, parameter, .. } => unary_of(op, parameter).is_some(),
                 Call::Binary { op, .. } => binary_of(op).is_some(),
+                Call::AssumeGuard { expected, .. } | Call::Guard { expected, .. } => expected <= 1,
+                Call::Matches {
+                    op,
+                    expected,
+                    host64,
+                    ..
+                } => binary_of(op).is_some() && expected <= 1 && host64 <= 1,
                 _ => true,
             }
     }
@@ -221,6 +259,7 @@ impl Call {
             | Call::Unary { id, .. }
             | Call::Slice { id, .. }
             | Call::UnsignedRange { id, .. } => vec![id],
+            Call::AssumeGuard { condition, .. } | Call::Guard { condition, .. } => vec![condition],
             Call::Binary { left, right, .. } => vec![left, right],
             Call::Concat { high, low, .. } => vec![high, low],
             _ => vec![],

@@ -1,5 +1,5 @@
 // The classes of regions, and a round through them.
-use crate::call::{Answer, Call};
+use crate::call::{Answer, Call, GUARD_WORDS};
 use crate::compare::Comparison;
 use crate::edges::{self, Step};
 use crate::generate::{Source, Spread};
@@ -7,10 +7,12 @@ use crate::lines::HELD;
 use crate::meter::Kind;
 use crate::native::{Graph, Scalar, ScalarType, opened};
 use crate::plans::ADD;
+use crate::retains::Retain;
 use crate::sweep;
 use crate::words::{LIMIT, REGION, encode, graph_of, readable};
 
 pub const GROWN: &str = "grown";
+pub const GUARDED: &str = "guarded";
 pub const FULL: &str = "full";
 pub const OTHER: &str = "other";
 pub const DAMAGED: &str = "damaged";
@@ -24,7 +26,7 @@ const LENGTHS: [usize; 7] = [0, 1, 2, 13, 6133, REGION - 1, REGION + 1];
 // The kind of region by which a class counts sites.
 pub fn kind_of(class: &str) -> Kind {
     match class {
-        GROWN | FULL => Kind::Grown,
+        GROWN | GUARDED | FULL => Kind::Grown,
         OTHER | PASSING => Kind::Other,
         _ => Kind::Fixed,
     }
@@ -55,8 +57,8 @@ impl Rounds {
         }
     }
 
-    // Begins a list of calls on a graph that calls have grown, with the original's own maps. Every other list is put to
-    // the tier for regions that are known to be graphs.
+    // Begins a list of calls on a graph that calls have grown, with the original's own maps. Every other list is put
+    // to the tier for regions that are known to be graphs.
     fn begin(&mut self, class: &'static str, graph: Graph) -> List {
         let mut region = vec![0; REGION];
         encode(&graph, &mut region);
@@ -114,7 +116,7 @@ impl Rounds {
         let retain = self.source.retain(&list.graph.scalars);
         let List { region, graph } = list;
         self.comparison.retain_grown(region, graph, &retain)?;
-        self.source.forget();
+        self.source.renumber(&retain.keep);
         Ok(())
     }
 
@@ -128,6 +130,41 @@ impl Rounds {
         }
         self.end(&list);
         self.retains_on(GROWN, &list.region)
+    }
+
+    // A retain in the midst of a list that keeps every node, or nearly every one, and the guards before it again:
+    // their Refines stand there already.
+    fn guards_again(&mut self, list: &mut List) -> Outcome {
+        let scalars = &list.graph.scalars;
+        let retain = self.source.retain_most(scalars);
+        let List { region, graph } = list;
+        self.comparison.retain_grown(region, graph, &retain)?;
+        self.source.renumber(&retain.keep);
+        for _ in 0..6 {
+            if let Some(call) = self.source.guard_again() {
+                self.call_on(list, &call)?;
+            }
+        }
+        Ok(())
+    }
+
+    // A list of calls that lead to guards, and retains among them.
+    fn guarded(&mut self) -> Outcome {
+        let mut list = self.begin_empty(GUARDED);
+        self.source.guarding = 10;
+        for _ in 0..3 + self.source.random.below(6) {
+            for _ in 0..4 {
+                self.source.begin_guards(&list.graph.scalars);
+                self.grow(&mut list, 16, Spread::Few)?;
+            }
+            if self.source.random.once_in(3) {
+                self.retain_in(&mut list)?;
+            } else {
+                self.guards_again(&mut list)?;
+            }
+        }
+        self.end(&list);
+        Ok(())
     }
 
     // A list in which some value is doubled again and again, so that a reduction of it is dear.
@@ -195,6 +232,64 @@ impl Rounds {
         Ok(())
     }
 
+    // Guards on a graph that is nearly full: refused at the first node, at the second operand's, and in a chain of
+    // sums.
+    fn guards_when_full(&mut self) -> Outcome {
+        let graph = self.source.guarded_full_graph();
+        let mut list = self.begin(FULL, graph);
+        for _ in 0..16 {
+            if let Some(call) = self.source.guard_again() {
+                self.call_on(&mut list, &call)?;
+            }
+        }
+        // A full graph too has room for a guard whose nodes stand there.
+        self.guards_again(&mut list)?;
+        self.grow(&mut list, 6, Spread::Few)?;
+        self.end(&list);
+        Ok(())
+    }
+
+    // Each of some conditions of a region on a copy of it: assumed both ways, and its guard matched with two values.
+    fn guards_on(&mut self, class: &'static str, region: &[u64]) -> Outcome {
+        self.comparison.start(class, region);
+        for condition in self.source.conditions(&readable(region)) {
+            for expected in [0, 1] {
+                self.comparison.is_twin = self.source.random.once_in(2);
+                self.guard_on(region, condition, expected)?;
+            }
+        }
+        self.comparison.is_twin = false;
+        Ok(())
+    }
+
+    fn guard_on(&mut self, region: &[u64], condition: u64, expected: u64) -> Outcome {
+        let mut copy = region.to_vec();
+        self.comparison.place(region);
+        let guard = Call::Guard {
+            condition,
+            expected,
+            room: GUARD_WORDS,
+        };
+        let answer = self.comparison.call(&mut copy, &guard)?;
+        if let Answer::Guard([op, _, _, expected, host64]) = answer {
+            let [left, right] = self.source.two_values();
+            let matches = Call::Matches {
+                op,
+                expected,
+                host64,
+                left,
+                right,
+            };
+            self.comparison.call(&mut copy, &matches)?;
+        }
+        let assume = Call::AssumeGuard {
+            condition,
+            expected,
+        };
+        self.comparison.call(&mut copy, &assume)?;
+        Ok(())
+    }
+
     // Calls on a region, up to one that leaves no graph.
     fn calls_on(&mut self, class: &'static str, region: &mut [u64], calls: usize) -> Outcome {
         self.comparison.start(class, region);
@@ -238,6 +333,9 @@ impl Rounds {
         self.damages[kind][1] += u64::from(!is_graph);
         let class = if is_graph { PASSING } else { DAMAGED };
         self.retains_on(class, &damaged)?;
+        if is_graph {
+            self.guards_on(class, &damaged)?;
+        }
         self.each_call_on(class, &mut damaged)
     }
 
@@ -265,8 +363,14 @@ impl Rounds {
                     held[..region.len()].copy_from_slice(&region);
                 }
                 Step::Call(len, call) => {
-                    self.comparison.place(&held[..len]);
-                    self.comparison.call(&mut held[..len], &call)?;
+                    if self.comparison.side.takes(&call) {
+                        self.comparison.place(&held[..len]);
+                        self.comparison.call(&mut held[..len], &call)?;
+                    }
+                }
+                Step::Retain(keep) => {
+                    let retain = Retain::new(keep, "all kept");
+                    self.comparison.retain(&mut held[..REGION], &retain)?;
                 }
                 Step::Look(_) => {}
             }
@@ -276,13 +380,16 @@ impl Rounds {
 
     pub fn round(&mut self, number: u64) -> Outcome {
         self.grown()?;
+        self.guarded()?;
         self.nearly_full()?;
+        self.guards_when_full()?;
         if number.is_multiple_of(50) {
             self.fill()?;
         }
         for _ in 0..5 {
             let mut region = self.source.other_region();
             self.retains_on(OTHER, &region)?;
+            self.guards_on(OTHER, &region)?;
             self.calls_on(OTHER, &mut region, 16)?;
         }
         let good = self.good_region();

@@ -3,10 +3,10 @@ use crate::call::{Answer, Call, Side};
 use crate::classes;
 use crate::meter;
 use crate::native::Graph;
-use crate::original::{Original, apply};
-use crate::words::{LIMIT, REGION, WORDS, encode_from, start_of};
+use crate::original::{Original, apply, write};
+use crate::words::{ALIAS, LIMIT, REGION, WORDS, start_of};
 use std::collections::BTreeMap;
-use std::fmt::Write;
+use std::fmt::Write as _;
 use std::ops::Range;
 
 // What was compared in one class.
@@ -52,6 +52,26 @@ pub const REFUSALS: [&str; 9] = [
     "refused 8",
 ];
 
+// What a guard that is assumed has done. A node that gets an alias is narrowed by a new Refine or by one that stood
+// there.
+pub const NARROWED: [&str; 3] = [
+    "done, nothing narrowed",
+    "done, narrowed",
+    "done, narrowed by an old node",
+];
+
+fn narrowed() -> &'static str {
+    let (stored, aliases) = (meter::stored(), meter::aliases());
+    match aliases {
+        0 => NARROWED[0],
+        _ if aliases == stored => NARROWED[1],
+        _ => NARROWED[2],
+    }
+}
+
+// A guard that met question 7 when a node had an alias already.
+pub const TAKEN_BACK: &str = "refused 7, aliases taken back";
+
 // The answer's name, where the region had so many nodes.
 fn name_of(count: u64, call: &Call, answer: Answer) -> &'static str {
     match (call, answer) {
@@ -63,6 +83,10 @@ fn name_of(count: u64, call: &Call, answer: Answer) -> &'static str {
         (_, Answer::Kept(_)) => "kept",
         (_, Answer::None) => "none",
         (_, Answer::Refused(number)) => REFUSALS[number as usize],
+        (_, Answer::Done) => narrowed(),
+        (_, Answer::Guard(_)) => "guard",
+        (Call::Matches { .. }, Answer::Is(true)) => "matches",
+        (Call::Matches { .. }, Answer::Is(false)) => "does not match",
         (_, Answer::Is(true)) => "is a graph",
         (_, Answer::Is(false)) => "is no graph",
         (_, Answer::Spoilt) => "spoilt",
@@ -143,6 +167,7 @@ impl Comparison {
     fn count(&mut self, call: &Call, answer: Answer, before: u64) {
         let name = match answer {
             Answer::None if self.right.first() != Some(&before) => "none, nodes kept",
+            Answer::Refused(7) if meter::aliases() > 0 => TAKEN_BACK,
             Answer::Refused(7) if meter::stored() > 0 => "refused 7, nodes taken back",
             Answer::Refused(8) if meter::stored() > 0 => "refused 8, nodes taken back",
             _ => name_of(before, call, answer),
@@ -153,9 +178,13 @@ impl Comparison {
         *counts.kinds.entry(call.kind()).or_default() += 1;
     }
 
-    // The words before the call that left them as they are now: it can only have added nodes to this count.
+    // The words before the call that left them as they are now: it can only have added nodes to this count, and given
+    // an alias to nodes that had none.
     fn before(&self, count: u64) -> Vec<u64> {
         let mut before = self.right.clone();
+        for id in meter::aliased() {
+            before[start_of(id) + ALIAS] = 0;
+        }
         if before.first().is_some_and(|now| *now != count) {
             let [start, end] = [count, before[0]].map(|count| start_of(count as usize));
             before[start..end].fill(0);
@@ -211,7 +240,7 @@ impl Comparison {
     ) -> Result<Answer, String> {
         let count = graph.scalars.len();
         let right = apply(graph, call);
-        encode_from(graph, count, &mut self.right);
+        write(graph, count, call, &mut self.right);
         self.settle(region, call, right, count as u64)
     }
 

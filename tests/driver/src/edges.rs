@@ -1,6 +1,7 @@
 // The edges that document 01 names, as a list of calls.
-use crate::call::Call;
+use crate::call::{Call, GUARD_WORDS};
 use crate::examples;
+use crate::guard_examples;
 use crate::native::{Operation, Range, Scalar, ScalarType};
 use crate::questions;
 use crate::words::{LIMIT, REGION, WORDS, node_words, start_of};
@@ -13,6 +14,8 @@ pub enum Step {
     Call(usize, Call),
     // Four words are looked at.
     Look(usize),
+    // A retain on the region, with such a keep list.
+    Retain(Vec<u8>),
 }
 
 struct Steps(Vec<Step>);
@@ -33,6 +36,21 @@ pub fn input(number: u64, ty: ScalarType, range: Option<(i128, i128)>) -> Call {
 pub fn effect(number: u64, ty: ScalarType) -> Call {
     let ty = ty.into();
     Call::Effect { number, ty }
+}
+
+pub fn assume(condition: u64, expected: u64) -> Call {
+    Call::AssumeGuard {
+        condition,
+        expected,
+    }
+}
+
+pub fn guard(condition: u64, expected: u64) -> Call {
+    Call::Guard {
+        condition,
+        expected,
+        room: GUARD_WORDS,
+    }
 }
 
 fn literal(id: u64) -> Call {
@@ -198,6 +216,10 @@ impl Steps {
                 effect(0, Bool),
                 literal(0),
                 resolve(9),
+                assume(0, 1),
+                assume(9, 0),
+                guard(0, 0),
+                guard(9, 1),
             ] {
                 self.0.push(Step::Call(len, call));
             }
@@ -270,6 +292,7 @@ impl Steps {
                 self.call(Call::IsGraph);
             }
             self.calls(&[constant(Bits(129), 5), effect(0, Bool), resolve(9)]);
+            self.calls(&[assume(9, 1), guard(9, 0)]);
         }
     }
 }
@@ -287,5 +310,6 @@ pub fn steps() -> Vec<Step> {
     steps.damages();
     steps.0.extend(questions::steps());
     steps.0.extend(examples::steps());
+    steps.0.extend(guard_examples::steps());
     steps.0
 }

@@ -1,6 +1,6 @@
 // Named examples of the builders at their limits. Each one is run on the original as it is made, and must answer so.
 use crate::call::{Answer, Call};
-use crate::edges::{Step, constant, effect, input, region_of};
+use crate::edges::{Step, assume, constant, effect, input, region_of};
 use crate::meter;
 use crate::native::{Binary, Graph, Operation, Range, Scalar, ScalarType};
 use crate::original::apply;
@@ -9,12 +9,12 @@ use crate::words::{LIMIT, REGION, graph_of};
 use ScalarType::{Bits, Bool, Integer};
 
 // A list of calls, and the graph that it leads to.
-struct Example {
-    steps: Vec<Step>,
-    graph: Graph,
+pub struct Example {
+    pub steps: Vec<Step>,
+    pub graph: Graph,
 }
 
-fn binary(ty: ScalarType, op: u64, left: u64, right: u64) -> Call {
+pub fn binary(ty: ScalarType, op: u64, left: u64, right: u64) -> Call {
     let ty = ty.into();
     Call::Binary {
         ty,
@@ -33,7 +33,7 @@ fn slice(id: u64, width: u64) -> Call {
 }
 
 impl Example {
-    fn on(region: Vec<u64>) -> Self {
+    pub fn on(region: Vec<u64>) -> Self {
         let graph = graph_of(&region).expect("an example's region is a graph");
         Example {
             steps: vec![Step::Region(region)],
@@ -41,16 +41,16 @@ impl Example {
         }
     }
 
-    fn new() -> Self {
+    pub fn new() -> Self {
         Example::on(vec![0; REGION])
     }
 
-    fn put(&mut self, call: Call) -> Answer {
+    pub fn put(&mut self, call: Call) -> Answer {
         self.steps.push(Step::Call(REGION, call));
         apply(&mut self.graph, &call)
     }
 
-    fn id(&mut self, call: Call) -> u64 {
+    pub fn id(&mut self, call: Call) -> u64 {
         match self.put(call) {
             Answer::Id(id) => id,
             other => panic!("{call:?} answers {other:?}"),
@@ -58,13 +58,13 @@ impl Example {
     }
 
     // The answer must be this one, and the call must have used so many units.
-    fn expect(&mut self, call: Call, answer: Answer, units: u64) {
+    pub fn expect(&mut self, call: Call, answer: Answer, units: u64) {
         assert_eq!(self.put(call), answer, "{call:?}");
         assert_eq!(meter::units(), units, "the units of {call:?}");
     }
 
     // Adds leaves up to this count.
-    fn fill(&mut self, count: usize) {
+    pub fn fill(&mut self, count: usize) {
         for number in self.graph.scalars.len()..count {
             self.id(effect(1000 + number as u64, Integer));
         }
@@ -187,12 +187,17 @@ fn both_limits() -> Example {
     example
 }
 
-fn scalar(ty: ScalarType, (min, max): (i128, i128), operation: Operation) -> Scalar {
+pub fn scalar(ty: ScalarType, (min, max): (i128, i128), operation: Operation) -> Scalar {
     Scalar {
         ty,
         range: Some(Range { min, max }),
         operation,
     }
+}
+
+// A node without an alias.
+pub fn node(ty: ScalarType, range: (i128, i128), operation: Operation) -> (Scalar, Option<usize>) {
+    (scalar(ty, range, operation), None)
 }
 
 // A None that keeps a node: the range of a sum has room for one constant more, so that the sum of the two constants is
@@ -244,7 +249,7 @@ fn deep_bits() -> Example {
     example
 }
 
-// The list that document 01 shows, without its guard.
+// The list that document 01 shows.
 fn shown() -> Example {
     let mut example = Example::new();
     let ty = Bits(8);
@@ -253,6 +258,10 @@ fn shown() -> Example {
     let sum = example.id(binary(ty, ADD, x, five));
     let seven = example.id(constant(ty, 7));
     example.expect(binary(Bool, 29, sum, seven), Answer::Id(5), 2);
+    example.expect(assume(5, 1), Answer::Done, 0);
+    example.expect(binary(ty, ADD, x, five), Answer::Id(7), 1);
+    example.expect(binary(Bool, 29, 7, seven), Answer::Id(8), 2);
+    assert_eq!(example.graph.scalars.len(), 9);
     example
 }
 

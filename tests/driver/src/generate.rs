@@ -67,6 +67,10 @@ pub struct Source {
     // The nodes of the region at hand as no builders have stored them.
     pub odd: Vec<usize>,
     pub plan: Plan,
+    // Once in so many times a call is about guards, or never.
+    pub guarding: usize,
+    // Guards assumed lately: the condition, and what is expected.
+    pub assumed: Vec<(u64, u64)>,
 }
 
 pub fn mask(width: u16) -> u128 {
@@ -98,13 +102,17 @@ impl Source {
             widths: WIDTHS.to_vec(),
             odd: vec![],
             plan: Plan::default(),
+            guarding: 0,
+            assumed: vec![],
         }
     }
 
-    // Chooses the widths of another list. 8 and 16 are in most.
+    // Chooses the widths of another list, and how many guards there are in it. 8 and 16 are in most.
     pub fn start(&mut self) {
         self.plan = Plan::default();
         self.odd.clear();
+        self.assumed.clear();
+        self.guarding = self.random.pick(&[0, 4, 8, 12]);
         self.widths.clear();
         for width in [8, 16] {
             if !self.random.once_in(6) {
@@ -316,13 +324,12 @@ impl Source {
 
     // A call on a graph with these nodes. Once it is answered, the source has to hear it.
     pub fn call(&mut self, scalars: &[Scalar], spread: Spread) -> Call {
-        if let Some(call) = self.plan.next() {
-            return call;
-        }
-        if self.random.once_in(8) {
-            self.begin_plan(scalars);
-        }
-        self.single(scalars, spread)
+        let call = match self.plan.next() {
+            Some(call) => call,
+            None => self.single(scalars, spread),
+        };
+        self.remember(&call);
+        call
     }
 
     // The nodes have other ids now.
@@ -335,8 +342,14 @@ impl Source {
         self.plan.hear(answer);
     }
 
-    // A call by itself.
+    // A call by itself, perhaps with a plan for those after it.
     fn single(&mut self, scalars: &[Scalar], spread: Spread) -> Call {
+        if self.random.once_in(8) {
+            self.begin_plan(scalars);
+        }
+        if self.is_guarding() {
+            return self.about_guards(scalars);
+        }
         let count = scalars.len() as u64;
         let is_small = scalars.len() < 6;
         match self.random.below(40) {
@@ -368,6 +381,9 @@ impl Source {
             self.unsigned_range(scalars),
             self.literal(count),
             self.resolve(count),
+            self.assume_guard(scalars),
+            self.guard(scalars),
+            self.matches(),
         ]
     }
 }

@@ -1,5 +1,5 @@
 // The proved library's side, through the functions that it exports.
-use crate::call::{Answer, Call, Side};
+use crate::call::{Answer, Call, GUARD_WORDS, Side};
 use crate::words::{MARK, halves, joined};
 
 // The functions that have a twin for a caller that knows the region to be a graph.
@@ -13,6 +13,7 @@ struct Tier {
     slice: unsafe extern "C" fn(*mut u64, usize, u64, u64, u64) -> u64,
     concat: unsafe extern "C" fn(*mut u64, usize, u64, u64, u64, u64) -> u64,
     unsigned_range: unsafe extern "C" fn(*mut u64, usize, u64, u64, u64, u64, u64) -> u64,
+    assume_guard: unsafe extern "C" fn(*mut u64, usize, u64, u64) -> u64,
     retain: Retain,
 }
 
@@ -40,6 +41,7 @@ twins! {
     scalars_concat / scalars_concat_in_graph (high, low, low_width, width);
     scalars_unsigned_range / scalars_unsigned_range_in_graph
         (id, low_low, low_high, high_low, high_high);
+    scalars_assume_guard / scalars_assume_guard_in_graph (condition, expected);
 }
 
 macro_rules! retains {
@@ -65,6 +67,23 @@ unsafe extern "C" {
     fn scalars_literal(g: *const u64, len: usize, id: u64, out: *mut u64, out_len: usize) -> u64;
     fn scalars_resolve(g: *const u64, len: usize, id: u64) -> u64;
     fn scalars_is_graph(g: *const u64, len: usize) -> u64;
+    fn scalars_guard(
+        g: *const u64,
+        len: usize,
+        condition: u64,
+        expected: u64,
+        out: *mut u64,
+        out_len: usize,
+    ) -> u64;
+    fn scalars_matches(
+        operator: u64,
+        expected: u64,
+        host64: u64,
+        left_low: u64,
+        left_high: u64,
+        right_low: u64,
+        right_high: u64,
+    ) -> u64;
 }
 
 const ASKING: Tier = Tier {
@@ -76,6 +95,7 @@ const ASKING: Tier = Tier {
     slice: scalars_slice,
     concat: scalars_concat,
     unsigned_range: scalars_unsigned_range,
+    assume_guard: scalars_assume_guard,
     retain: scalars_retain,
 };
 
@@ -88,8 +108,12 @@ const IN_GRAPH: Tier = Tier {
     slice: scalars_slice_in_graph,
     concat: scalars_concat_in_graph,
     unsigned_range: scalars_unsigned_range_in_graph,
+    assume_guard: scalars_assume_guard_in_graph,
     retain: scalars_retain_in_graph,
 };
+
+// What a guard that is assumed answers.
+const DONE: u64 = 1 << 63;
 
 fn answer_of(number: u64) -> Answer {
     match u64::MAX - number {
@@ -119,6 +143,40 @@ fn literal(region: &[u64], id: u64, room: usize) -> Answer {
         return Answer::Spoilt;
     }
     answer_of(number)
+}
+
+// The guard in the lent words, which stay as they were unless there is one.
+fn guard(region: &[u64], condition: u64, expected: u64, room: usize) -> Answer {
+    let mut out = vec![MARK; room];
+    // SAFETY: both slices are passed whole, and the function asks nothing else of its caller.
+    let number = unsafe {
+        scalars_guard(
+            region.as_ptr(),
+            region.len(),
+            condition,
+            expected,
+            out.as_mut_ptr(),
+            out.len(),
+        )
+    };
+    if number == 1 && room == GUARD_WORDS {
+        return Answer::Guard([0, 1, 2, 3, 4].map(|place| out[place]));
+    }
+    if out.iter().any(|word| *word != MARK) {
+        return Answer::Spoilt;
+    }
+    answer_of(number)
+}
+
+// Whether two values match, for each number that the call may have.
+fn matches(op: u64, expected: u64, host64: u64, left: u128, right: u128) -> Answer {
+    let ([a, b], [c, d]) = (halves(left), halves(right));
+    // SAFETY: the function takes numbers alone.
+    let number = unsafe { scalars_matches(op, expected, host64, a, b, c, d) };
+    match number {
+        0 | 1 => Answer::Is(number == 1),
+        _ => answer_of(number),
+    }
 }
 
 impl Tier {
@@ -186,6 +244,15 @@ impl Tier {
     }
 
     // SAFETY: as for the leaves.
+    unsafe fn assumed(&self, region: &mut [u64], condition: u64, expected: u64) -> Answer {
+        let (g, len) = (region.as_mut_ptr(), region.len());
+        match unsafe { (self.assume_guard)(g, len, condition, expected) } {
+            DONE => Answer::Done,
+            number => answer_of(number),
+        }
+    }
+
+    // SAFETY: as for the leaves.
     unsafe fn call(&self, region: &mut [u64], call: &Call) -> Answer {
         let number =
             unsafe { self.leaf(region, call) }.or_else(|| unsafe { self.builder(region, call) });
@@ -196,6 +263,22 @@ impl Tier {
         match *call {
             Call::Literal { id, room } => literal(region, id, room),
             Call::Resolve { id } => answer_of(unsafe { scalars_resolve(g, len, id) }),
+            Call::AssumeGuard {
+                condition,
+                expected,
+            } => unsafe { self.assumed(region, condition, expected) },
+            Call::Guard {
+                condition,
+                expected,
+                room,
+            } => guard(region, condition, expected, room),
+            Call::Matches {
+                op,
+                expected,
+                host64,
+                left,
+                right,
+            } => matches(op, expected, host64, left, right),
             _ => Answer::Is(unsafe { scalars_is_graph(g, len) } == 1),
         }
     }

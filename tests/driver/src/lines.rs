@@ -1,6 +1,14 @@
 // The text that the program native_vectors reads and writes.
-use crate::call::{Answer, Call, TypeCode};
-use crate::words::joined;
+//
+// The lines of guards, by the fields kind, length, number, type, width, flag and the two words:
+//   9 assume_guard: number the condition, flag what is expected. Answers `done`, or a refusal.
+//   14 guard: number the condition, flag what is expected. Answers `guard` and 32 digits, `none`, or a refusal. The
+//     digits' high half is the operator's code · 65536 + expected · 256 + host64, the low half left · 2^32 + right.
+//   15 matches: number what is expected, width host64, flag the operator's code, the words the two values. It looks at
+//     no word of the region. Answers `yes` or `no`, or a refusal.
+// The fields that a line does not use are 0. After each of these answers stand the sums of all words, as after others.
+use crate::call::{Answer, Call, GUARD_WORDS, TypeCode};
+use crate::words::{halves, joined};
 
 // The words that the program holds: the region, one word past its end, and the mapping of a retain.
 pub const HELD: usize = MAPPING + LISTED;
@@ -19,10 +27,13 @@ enum Kind {
     Slice = 6,
     Concat = 7,
     UnsignedRange = 8,
+    AssumeGuard = 9,
     Retain = 10,
     Literal = 11,
     Resolve = 12,
     IsGraph = 13,
+    Guard = 14,
+    Matches = 15,
     Reset = 16,
     Poke = 17,
     Peek = 18,
@@ -128,9 +139,44 @@ fn leaf_line(call: &Call, len: usize) -> Option<Line> {
     })
 }
 
+fn guard_line(call: &Call, len: usize) -> Option<Line> {
+    let line = |kind, condition, expected| {
+        let none = TypeCode { code: 0, width: 0 };
+        Line::new(kind, len, condition).of(none, expected as u8)
+    };
+    Some(match *call {
+        Call::AssumeGuard {
+            condition,
+            expected,
+        } => line(Kind::AssumeGuard, condition, expected),
+        Call::Guard {
+            condition,
+            expected,
+            ..
+        } => line(Kind::Guard, condition, expected),
+        Call::Matches {
+            op,
+            expected,
+            host64,
+            left,
+            right,
+        } => {
+            let wide = TypeCode {
+                code: 0,
+                width: host64,
+            };
+            let line = Line::new(Kind::Matches, len, expected);
+            line.of(wide, op as u8).with(left, right)
+        }
+        _ => return None,
+    })
+}
+
 // A call on the first words of those held.
 pub fn call_line(call: &Call, len: usize) -> String {
-    let line = leaf_line(call, len).or_else(|| builder_line(call, len));
+    let line = leaf_line(call, len)
+        .or_else(|| builder_line(call, len))
+        .or_else(|| guard_line(call, len));
     line.expect("every call has a line").text()
 }
 
@@ -167,6 +213,7 @@ pub fn has_line(call: &Call) -> bool {
         && match call {
             Call::Slice { offset, .. } => is_short(offset),
             Call::Literal { room, .. } => *room == 2,
+            Call::Guard { room, .. } => *room == GUARD_WORDS,
             _ => true,
         }
 }
@@ -221,6 +268,17 @@ pub fn sums(words: &[u64]) -> u128 {
     u128::from(sums) << 64 | u128::from(sum)
 }
 
+// A guard as one word.
+fn packed([op, left, right, expected, host64]: [u64; GUARD_WORDS]) -> u128 {
+    joined(left << 32 | right, op << 16 | expected << 8 | host64)
+}
+
+fn unpacked(guard: u128) -> [u64; GUARD_WORDS] {
+    let [low, high] = halves(guard);
+    let (left, right) = (low >> 32, low & 0xffff_ffff);
+    [high >> 16, left, right, high >> 8 & 0xff, high & 0xff]
+}
+
 pub fn answer_line(answer: Answer, words: &[u64]) -> String {
     let text = match answer {
         Answer::Id(id) => format!("id {id}"),
@@ -231,6 +289,8 @@ pub fn answer_line(answer: Answer, words: &[u64]) -> String {
         Answer::Is(false) => "no".to_string(),
         Answer::Spoilt => "spoilt".to_string(),
         Answer::Kept(nodes) => format!("kept {nodes}"),
+        Answer::Done => "done".to_string(),
+        Answer::Guard(words) => format!("guard {:032x}", packed(words)),
     };
     format!("{text} {:032x}\n", sums(words))
 }
@@ -255,6 +315,8 @@ pub fn read_answer(line: &str) -> Option<(Answer, u128)> {
         "yes" => Answer::Is(true),
         "no" => Answer::Is(false),
         "spoilt" => Answer::Spoilt,
+        "done" => Answer::Done,
+        "guard" => Answer::Guard(unpacked(u128::from_str_radix(number, 16).ok()?)),
         _ => return None,
     };
     Some((answer, sums))

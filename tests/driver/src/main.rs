@@ -8,6 +8,9 @@ mod compare;
 mod edges;
 mod examples;
 mod generate;
+mod guard_examples;
+mod guard_regions;
+mod guards;
 #[cfg(library)]
 mod library;
 mod lines;

@@ -1,9 +1,9 @@
-// What the metered original tells as it works: each entry into a builder, each node that it is about to store, and each
-// site that it comes to.
+// What the metered original tells as it works: each entry into a builder, each node that it is about to store, each
+// alias that it is about to set, and each site that it comes to.
 use crate::sites::COUNT;
 use crate::words::LIMIT;
 use std::any::Any;
-use std::cell::Cell;
+use std::cell::{Cell, RefCell};
 use std::panic::resume_unwind;
 
 // The units of a call.
@@ -12,6 +12,7 @@ pub const UNITS: u64 = 1024;
 thread_local! {
     static ENTERED: Cell<u64> = const { Cell::new(0) };
     static STORED: Cell<u64> = const { Cell::new(0) };
+    static ALIASED: RefCell<Vec<usize>> = const { RefCell::new(vec![]) };
     static KIND: Cell<Kind> = const { Cell::new(Kind::Fixed) };
     static HITS: [[Cell<u64>; COUNT]; 3] = const { [const { [const { Cell::new(0) }; COUNT] }; 3] };
 }
@@ -35,6 +36,7 @@ enum Stop {
 pub fn start() {
     ENTERED.set(0);
     STORED.set(0);
+    ALIASED.with_borrow_mut(Vec::clear);
 }
 
 // The units that the last call has used.
@@ -45,6 +47,16 @@ pub fn units() -> u64 {
 // The nodes that it has stored.
 pub fn stored() -> u64 {
     STORED.get()
+}
+
+// The nodes to which it has given an alias. None of them had one: a guard follows aliases to their end first.
+pub fn aliased() -> Vec<usize> {
+    ALIASED.with_borrow(Vec::clone)
+}
+
+// How many they are.
+pub fn aliases() -> u64 {
+    ALIASED.with_borrow(Vec::len) as u64
 }
 
 // One of unary, modular, binary, slice, concat and identity is entered.
@@ -62,6 +74,11 @@ pub fn store(count: usize) {
         resume_unwind(Box::new(Stop::Full));
     }
     STORED.set(STORED.get() + 1);
+}
+
+// A node is about to get an alias.
+pub fn alias(id: usize) {
+    ALIASED.with_borrow_mut(|aliased| aliased.push(id));
 }
 
 // The refusal that ended a call. A panic of the original's own goes on.
@@ -108,6 +125,14 @@ pub fn none<T>(site: usize, option: Option<T>) -> Option<T> {
 // The site is come to if this holds.
 pub fn when(site: usize, holds: bool) -> bool {
     if holds {
+        hit(site);
+    }
+    holds
+}
+
+// The site is come to if this fails.
+pub fn unless(site: usize, holds: bool) -> bool {
+    if !holds {
         hit(site);
     }
     holds

@@ -1,8 +1,11 @@
 // The original's side: the questions that it does not ask, in document 01's order, and then its own work.
-use crate::call::{Answer, Call, Side, binary_of, short, unary_of};
+use crate::call::{Answer, Call, GUARD_WORDS, Side, binary_of, short, unary_of};
 use crate::meter;
+use crate::native::linear::{Guard, guard};
 use crate::native::{Binary, Graph, ScalarType, Unary, opened};
-use crate::words::{encode, encode_from, graph_of, is_range_of, operands};
+use crate::words::{
+    binary_code, encode, encode_aliases, encode_from, graph_of, is_range_of, operands,
+};
 use ScalarType::{Bits, Bool, Integer};
 use std::panic::{AssertUnwindSafe, catch_unwind};
 
@@ -45,6 +48,16 @@ fn is_binary_typed(
     }
 }
 
+// Does `Guard::matches` take the operator? With `host64` set, neither signed one.
+fn is_matched(operator: Binary, host64: bool) -> bool {
+    use Binary::*;
+    match operator {
+        Equal | NotEqual | LessUnsigned | LessEqualUnsigned => true,
+        LessSigned | LessEqualSigned => !host64,
+        _ => false,
+    }
+}
+
 // Question 4. A type code that there is not never gets here.
 fn is_typed(graph: &Graph, call: &Call) -> bool {
     let of = |id: u64| graph.scalars[id as usize].ty;
@@ -69,6 +82,12 @@ fn is_typed(graph: &Graph, call: &Call) -> bool {
             low_width <= width
                 && of(high) == Bits(short(width - low_width))
                 && of(low) == Bits(short(low_width))
+        }
+        Call::AssumeGuard { condition, .. } | Call::Guard { condition, .. } => {
+            of(condition) == Bool
+        }
+        Call::Matches { op, host64, .. } => {
+            binary_of(op).is_some_and(|operator| is_matched(operator, host64 == 1))
         }
         _ => true,
     }
@@ -112,6 +131,32 @@ fn value_of(value: Option<u128>, room: usize) -> Answer {
     }
 }
 
+fn guard_of(guard: Option<Guard>, room: usize) -> Answer {
+    match guard {
+        Some(_) if room != GUARD_WORDS => Answer::Refused(6),
+        Some(guard) => Answer::Guard([
+            binary_code(guard.operation),
+            guard.left as u64,
+            guard.right as u64,
+            guard.expected.into(),
+            guard.host64.into(),
+        ]),
+        None => Answer::None,
+    }
+}
+
+// Whether two values are as expected. The operands' ids are not looked at.
+fn matches(op: u64, expected: u64, host64: u64, left: u128, right: u128) -> Answer {
+    let guard = Guard {
+        operation: binary_of(op).expect("question 4 was asked"),
+        left: 0,
+        right: 0,
+        expected: expected == 1,
+        host64: host64 == 1,
+    };
+    Answer::Is(guard.matches(left, right))
+}
+
 // The id that a builder answers.
 fn built(graph: &mut Graph, call: &Call) -> Option<usize> {
     let ty = call.ty().and_then(|code| code.ty()).unwrap_or(Bool);
@@ -136,7 +181,7 @@ fn built(graph: &mut Graph, call: &Call) -> Option<usize> {
         } => Some(graph.concat(high as usize, low as usize, short(low_width), short(width))),
         Call::UnsignedRange { id, low, high } => graph.unsigned_range(id as usize, low, high),
         Call::Resolve { id } => Some(graph.resolve(id as usize)),
-        Call::Literal { .. } | Call::IsGraph => None,
+        _ => None,
     }
 }
 
@@ -144,23 +189,50 @@ fn work(graph: &mut Graph, call: &Call) -> Answer {
     match *call {
         Call::Literal { id, room } => value_of(graph.literal(id as usize), room),
         Call::IsGraph => Answer::Is(true),
+        Call::AssumeGuard {
+            condition,
+            expected,
+        } => {
+            graph.assume_guard(condition as usize, expected == 1);
+            Answer::Done
+        }
+        Call::Guard {
+            condition,
+            expected,
+            room,
+        } => guard_of(guard(graph, condition as usize, expected == 1), room),
+        Call::Matches {
+            op,
+            expected,
+            host64,
+            left,
+            right,
+        } => matches(op, expected, host64, left, right),
         _ => built(graph, call).map_or(Answer::None, |id| Answer::Id(id as u64)),
     }
 }
 
 // The answer to a call on a graph. Questions 7 and 8 end the work in its middle, and it is taken back.
 pub fn apply(graph: &mut Graph, call: &Call) -> Answer {
+    meter::start();
     if let Some(number) = refused(graph, call) {
         return Answer::Refused(number);
     }
     let count = graph.scalars.len();
-    meter::start();
     match catch_unwind(AssertUnwindSafe(|| work(graph, call))) {
         Ok(answer) => answer,
         Err(payload) => {
-            opened::put_back(graph, count);
+            opened::put_back(graph, count, &meter::aliased());
             Answer::Refused(meter::refusal(payload))
         }
+    }
+}
+
+// Writes what a call on so many nodes has left, where the words are those before it. Only a guard sets aliases.
+pub fn write(graph: &Graph, count: usize, call: &Call, words: &mut [u64]) {
+    encode_from(graph, count, words);
+    if matches!(call, Call::AssumeGuard { .. }) {
+        encode_aliases(graph, words);
     }
 }
 
@@ -192,6 +264,10 @@ pub fn retain(graph: &mut Graph, keep: &[u8], mapping: &mut [u64]) -> Answer {
 impl Side for Original {
     // The maps are filled from the region before the call.
     fn call(&mut self, region: &mut [u64], call: &Call) -> Answer {
+        meter::start();
+        if matches!(call, Call::Matches { .. }) {
+            return apply(&mut Graph::default(), call);
+        }
         let Some(mut graph) = graph_of(region) else {
             return match call {
                 Call::IsGraph => Answer::Is(false),
@@ -200,7 +276,7 @@ impl Side for Original {
         };
         let count = graph.scalars.len();
         let answer = apply(&mut graph, call);
-        encode_from(&graph, count, region);
+        write(&graph, count, call, region);
         answer
     }
 

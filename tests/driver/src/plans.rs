@@ -1,4 +1,5 @@
-// Short lists of calls that lead to the folds. A call of a plan can name the answers of those before it.
+// Short lists of calls that lead to the folds; those that lead to guards are in guards.rs. A call of a plan can name
+// the answers of those before it.
 use crate::call::{Answer, Call};
 use crate::generate::{Source, Spread, mask};
 use crate::native::{Operation, Range, Scalar, ScalarType};
@@ -69,31 +70,31 @@ impl Plan {
 }
 
 // A plan in the making.
-struct Draft<'a> {
-    source: &'a mut Source,
+pub struct Draft<'a> {
+    pub source: &'a mut Source,
     scalars: &'a [Scalar],
     calls: Vec<Call>,
 }
 
 impl Draft<'_> {
-    fn call(&mut self, call: Call) -> u64 {
+    pub fn call(&mut self, call: Call) -> u64 {
         self.calls.push(call);
         MADE + self.calls.len() as u64 - 1
     }
 
-    fn constant(&mut self, ty: ScalarType, value: u128) -> u64 {
+    pub fn constant(&mut self, ty: ScalarType, value: u128) -> u64 {
         let ty = ty.into();
         self.call(Call::Constant { ty, value })
     }
 
-    fn input(&mut self, ty: ScalarType, range: Option<(i128, i128)>) -> u64 {
+    pub fn input(&mut self, ty: ScalarType, range: Option<(i128, i128)>) -> u64 {
         let number = self.source.number(Spread::Few);
         let range = range.map(|(min, max)| Range { min, max });
         let ty = ty.into();
         self.call(Call::Input { number, ty, range })
     }
 
-    fn unary(&mut self, ty: ScalarType, op: u64, parameter: u16, id: u64) -> u64 {
+    pub fn unary(&mut self, ty: ScalarType, op: u64, parameter: u16, id: u64) -> u64 {
         self.call(Call::Unary {
             ty: ty.into(),
             op,
@@ -102,7 +103,7 @@ impl Draft<'_> {
         })
     }
 
-    fn binary(&mut self, ty: ScalarType, op: u64, left: u64, right: u64) -> u64 {
+    pub fn binary(&mut self, ty: ScalarType, op: u64, left: u64, right: u64) -> u64 {
         self.call(Call::Binary {
             ty: ty.into(),
             op,
@@ -112,7 +113,7 @@ impl Draft<'_> {
     }
 
     // With a constant on the right, or now and then on the left.
-    fn with(&mut self, ty: ScalarType, op: u64, left: u64, value: u128) -> u64 {
+    pub fn with(&mut self, ty: ScalarType, op: u64, left: u64, value: u128) -> u64 {
         let right = self.constant(ty, value);
         if self.once_in(8) {
             self.binary(ty, op, right, left)
@@ -121,7 +122,7 @@ impl Draft<'_> {
         }
     }
 
-    fn slice(&mut self, id: u64, offset: u16, width: u16) -> u64 {
+    pub fn slice(&mut self, id: u64, offset: u16, width: u16) -> u64 {
         self.call(Call::Slice {
             id,
             offset: offset.into(),
@@ -138,15 +139,15 @@ impl Draft<'_> {
         })
     }
 
-    fn below(&mut self, limit: u16) -> u16 {
+    pub fn below(&mut self, limit: u16) -> u16 {
         self.source.random.below(usize::from(limit.max(1))) as u16
     }
 
-    fn once_in(&mut self, times: usize) -> bool {
+    pub fn once_in(&mut self, times: usize) -> bool {
         self.source.random.once_in(times)
     }
 
-    fn pick<T: Copy>(&mut self, of: &[T]) -> T {
+    pub fn pick<T: Copy>(&mut self, of: &[T]) -> T {
         self.source.random.pick(of)
     }
 
@@ -170,7 +171,7 @@ impl Draft<'_> {
     }
 
     // A node of the type that is no constant: one that is there, or a new leaf.
-    fn value(&mut self, ty: ScalarType) -> u64 {
+    pub fn value(&mut self, ty: ScalarType) -> u64 {
         let found = self.source.find(self.scalars, |scalar| {
             scalar.ty == ty && !matches!(scalar.operation, Operation::Constant(_))
         });
@@ -183,16 +184,16 @@ impl Draft<'_> {
         }
     }
 
-    fn width(&mut self) -> u16 {
+    pub fn width(&mut self) -> u16 {
         self.source.width()
     }
 
-    fn pattern(&mut self, ty: ScalarType) -> u128 {
+    pub fn pattern(&mut self, ty: ScalarType) -> u128 {
         self.source.pattern(ty, Spread::Few)
     }
 
     // Bits or Integer.
-    fn number_type(&mut self) -> ScalarType {
+    pub fn number_type(&mut self) -> ScalarType {
         if self.once_in(3) {
             Integer
         } else {
@@ -492,6 +493,9 @@ impl Draft<'_> {
     }
 
     fn fill(&mut self) {
+        if self.source.guarding > 0 && self.once_in(2) {
+            return self.guards();
+        }
         if !self.source.odd.is_empty() && self.once_in(3) {
             return self.shift_out();
         }
@@ -525,6 +529,17 @@ impl Source {
             calls: vec![],
         };
         draft.fill();
+        self.plan = Plan::put(draft.calls);
+    }
+
+    // Begins a plan that leads to guards.
+    pub fn begin_guards(&mut self, scalars: &[Scalar]) {
+        let mut draft = Draft {
+            source: self,
+            scalars,
+            calls: vec![],
+        };
+        draft.guards();
         self.plan = Plan::put(draft.calls);
     }
 }

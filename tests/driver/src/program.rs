@@ -3,7 +3,7 @@ use crate::call::{Answer, Call, Side};
 use crate::lines::{
     DONE, HELD, call_line, has_line, peek_line, place_lines, read_answer, read_words, sums,
 };
-use crate::words::{LIMIT, start_of};
+use crate::words::{LIMIT, REGION, start_of};
 use std::io::{BufRead, BufReader, BufWriter, Write};
 use std::process::{Child, ChildStdin, ChildStdout, Command, Stdio};
 
@@ -76,7 +76,7 @@ impl Program {
         }
     }
 
-    // Reads back what a call changed: the count and the new nodes, or else everything.
+    // Reads back what a call changed: the count and the new nodes, or else all that a call can change.
     fn refresh(&mut self, expected: u128) {
         let count_of = |held: &[u64]| held[0].min(LIMIT as u64) as usize;
         let before = count_of(&self.held);
@@ -85,8 +85,8 @@ impl Program {
         let places: Vec<usize> = (start..end).step_by(4).collect();
         self.fetch(&places);
         if sums(&self.held) != expected {
-            let mut places: Vec<usize> = (0..HELD - 4).step_by(4).collect();
-            places.push(HELD - 4);
+            let mut places: Vec<usize> = (0..REGION - 4).step_by(4).collect();
+            places.push(REGION - 4);
             self.fetch(&places);
         }
         assert_eq!(sums(&self.held), expected, "the sums of the words");

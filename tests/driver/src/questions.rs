@@ -1,5 +1,6 @@
-// Questions 2 to 4 for the builders: every operator with every choice of types, and the limits of widths and ids.
-use crate::call::{Call, TypeCode};
+// Questions 2 to 4 for the builders and the guards: every operator with every choice of types, and the limits of
+// widths and ids.
+use crate::call::{Call, GUARD_WORDS, TypeCode};
 use crate::edges::{Step, input};
 use crate::native::ScalarType::{self, Bits, Bool, Integer};
 use crate::words::REGION;
@@ -102,6 +103,89 @@ fn ranges() -> impl Iterator<Item = Call> {
         .flat_map(move |id| pairs.map(|(low, high)| Call::UnsignedRange { id, low, high }))
 }
 
+// Each node as a condition, with each way to expect and each length of the lent words.
+fn guards() -> impl Iterator<Item = Call> {
+    let conditions = (0..TYPES.len() as u64 + 6).chain(IDS);
+    conditions.flat_map(|condition| {
+        [0, 1, 2, 255, 1 << 32, u64::MAX]
+            .into_iter()
+            .flat_map(move |expected| {
+                let assume = Call::AssumeGuard {
+                    condition,
+                    expected,
+                };
+                let guards = [GUARD_WORDS, 0, 1, 4, 6].map(|room| Call::Guard {
+                    condition,
+                    expected,
+                    room,
+                });
+                guards.into_iter().chain([assume])
+            })
+    })
+}
+
+// A comparison of each two nodes of one type and two conditions of it, for the guards.
+fn conditions() -> impl Iterator<Item = Call> {
+    let compared = |op, left, right| Call::Binary {
+        ty: Bool.into(),
+        op,
+        left,
+        right,
+    };
+    let not = |id| Call::Unary {
+        ty: Bool.into(),
+        op: 10,
+        parameter: 0,
+        id,
+    };
+    let first = TYPES.len() as u64;
+    // One more Bits(8) and one more Integer with a range, to compare with the first.
+    [
+        input(1, Bits(8), Some((3, 200))),
+        input(1, Integer, Some((-5, 9))),
+        input(2, Integer, Some((0, 20))),
+        compared(32, 4, first),
+        compared(31, first + 1, first + 2),
+        not(first + 3),
+    ]
+    .into_iter()
+}
+
+// Every operator's code about those of the comparisons, with values whose halves are at their limits.
+fn matches() -> impl Iterator<Item = Call> {
+    let low = u128::from(u64::MAX);
+    let values = [0, 1, low, low + 1, 1 << 127, low << 64, u128::MAX];
+    let pairs = values
+        .into_iter()
+        .flat_map(move |left| values.into_iter().map(move |right| [left, right]));
+    let pairs: Vec<[u128; 2]> = pairs.collect();
+    let flags = [
+        (0, 0),
+        (0, 1),
+        (1, 0),
+        (1, 1),
+        (2, 0),
+        (0, 2),
+        (1, u64::MAX),
+    ];
+    let codes = (28..=35).chain([0, 10, 20, 38, 39, u64::MAX]);
+    codes.flat_map(move |op| {
+        let pairs = pairs.clone();
+        flags.into_iter().flat_map(move |(expected, host64)| {
+            let is_compared = (29..=34).contains(&op) && expected < 2 && host64 < 2;
+            let few = if is_compared { pairs.len() } else { 2 };
+            let pairs: Vec<_> = pairs[..few].to_vec();
+            pairs.into_iter().map(move |[left, right]| Call::Matches {
+                op,
+                expected,
+                host64,
+                left,
+                right,
+            })
+        })
+    })
+}
+
 // Ids at the count and past it, together with widths and types that fail too.
 const IDS: [u64; 6] = [0, 4, 511, 512, 1 << 32, u64::MAX];
 
@@ -170,5 +254,7 @@ pub fn steps() -> Vec<Step> {
     put(&mut concats());
     put(&mut ranges());
     put(&mut orders_of_operators().chain(orders_of_parts()));
+    put(&mut conditions().chain(guards()));
+    put(&mut matches());
     steps
 }

@@ -5,7 +5,7 @@ use crate::native::{Binary, Graph, Operation, Range, Scalar, ScalarType, Unary};
 use crate::operators;
 use crate::original::apply;
 use crate::words::{
-    LIMIT, Node, REGION, WORDS, encode, is_node, node_words, read_node, readable, start_of,
+    ALIAS, LIMIT, Node, REGION, WORDS, encode, is_node, node_words, read_node, readable, start_of,
 };
 
 // The kinds of words: a node's own by their place, and these two.
@@ -119,7 +119,7 @@ impl Source {
     }
 
     // What no call leaves: a constant that is not of its type.
-    fn wrong_constant(&mut self) -> Scalar {
+    pub fn wrong_constant(&mut self) -> Scalar {
         let (ty, value) = match self.random.below(3) {
             0 => (ScalarType::Bool, self.random.pick(&[2, 5, u128::MAX])),
             1 => (ScalarType::Bits(8), self.random.pick(&[256, 300, 1 << 127])),
@@ -169,7 +169,7 @@ impl Source {
         region
     }
 
-    fn grown_graph(&mut self) -> Graph {
+    pub fn grown_graph(&mut self) -> Graph {
         meter::count_as(Kind::Fixed);
         self.start();
         let mut graph = Graph::default();
@@ -323,7 +323,7 @@ impl Source {
         region[0] += 1;
         if id > 0 && self.random.once_in(2) {
             let other = start_of(self.random.below(id));
-            region[other + WORDS - 1] = id as u64 + 1;
+            region[other + ALIAS] = id as u64 + 1;
         }
     }
 
@@ -347,7 +347,7 @@ impl Source {
         let same = self.of_type(&scalars, scalars[source].ty) as usize;
         if id < LIMIT && same < id {
             region[start_of(id)..][..WORDS].copy_from_slice(&node_words(&scalar, None));
-            region[start_of(same) + WORDS - 1] = id as u64 + 1;
+            region[start_of(same) + ALIAS] = id as u64 + 1;
             region[0] += 1;
         }
     }
@@ -367,17 +367,20 @@ impl Source {
 
     // A region that passes question 1 and that no calls could have grown.
     pub fn other_region(&mut self) -> Vec<u64> {
-        if self.random.once_in(3) {
-            self.start();
-            return self.region();
+        match self.random.below(4) {
+            0 => {
+                self.start();
+                self.region()
+            }
+            1 => self.guard_region(),
+            _ => self.changed_region(),
         }
-        self.changed_region()
     }
 
     // The calls that follow are on this region.
     pub fn look_at(&mut self, region: &[u64]) {
         let scalars = readable(region);
-        let has_alias = |id: &usize| region[start_of(*id) + WORDS - 1] != 0;
+        let has_alias = |id: &usize| region[start_of(*id) + ALIAS] != 0;
         let is_odd = |id: &usize| {
             has_alias(id) || has_range_alone(&scalars, *id) || is_shifted_out(&scalars, *id)
         };

@@ -1,17 +1,20 @@
 // What was compared, as text, and what a whole run must have met.
 use crate::call::KINDS;
-use crate::classes::{DAMAGED, EDGES, FULL, GROWN, LENGTH, OTHER, PASSING, Rounds, SWEPT};
-use crate::compare::{Comparison, Counts};
+use crate::classes::{
+    DAMAGED, EDGES, FULL, GROWN, GUARDED, LENGTH, OTHER, PASSING, Rounds, SWEPT, kind_of,
+};
+use crate::compare::{Comparison, Counts, NARROWED, TAKEN_BACK};
 use crate::meter::{Kind, hits};
 use crate::regions::WORD_KINDS;
 use crate::retains;
 use crate::sites::{Reach, sites};
 use std::collections::BTreeMap;
 
-const CLASSES: [(&str, &str); 8] = [
+const CLASSES: [(&str, &str); 9] = [
     (EDGES, "the edges of document 01"),
     (SWEPT, "one node's words through all their limits"),
     (GROWN, "grown from zeros"),
+    (GUARDED, "grown from zeros, for guards"),
     (FULL, "grown until full, and on"),
     (OTHER, "regions that no calls could have grown"),
     (DAMAGED, "one word changed, no graph"),
@@ -20,14 +23,29 @@ const CLASSES: [(&str, &str); 8] = [
 ];
 
 // The answers that a whole run must have met, by class.
-const MET: [(&str, &[&str]); 7] = [
+const MET: [(&str, &[&str]); 8] = [
     (
         EDGES,
         &[
             "none, nodes kept",
             "refused 7",
             "refused 7, nodes taken back",
+            TAKEN_BACK,
             "refused 8, nodes taken back",
+        ],
+    ),
+    (
+        GUARDED,
+        &[
+            NARROWED[0],
+            NARROWED[1],
+            NARROWED[2],
+            "guard",
+            "matches",
+            "does not match",
+            "resolved",
+            "refused 3",
+            "refused 4",
         ],
     ),
     (
@@ -44,6 +62,10 @@ const MET: [(&str, &[&str]); 7] = [
             "refused 5",
             "refused 8, nodes taken back",
             "is a graph",
+            "resolved",
+            NARROWED[0],
+            NARROWED[1],
+            "guard",
         ],
     ),
     (
@@ -54,7 +76,9 @@ const MET: [(&str, &[&str]); 7] = [
             "none",
             "refused 7",
             "refused 7, nodes taken back",
+            TAKEN_BACK,
             "refused 8, nodes taken back",
+            NARROWED[1],
         ],
     ),
     (
@@ -74,8 +98,15 @@ const MET: [(&str, &[&str]); 7] = [
             "refused 5",
             "refused 7",
             "refused 7, nodes taken back",
+            TAKEN_BACK,
             "refused 8",
             "refused 8, nodes taken back",
+            NARROWED[0],
+            NARROWED[1],
+            NARROWED[2],
+            "guard",
+            "matches",
+            "does not match",
         ],
     ),
     (DAMAGED, &["refused 1", "is no graph"]),
@@ -150,7 +181,8 @@ fn print_sites() {
             Reach::Other(reason) => format!("other: {reason}"),
             Reach::Never(reason) => format!("never: {reason}"),
         };
-        let (name, text) = (site.name(), site.text());
+        // A bar would end the table's cell.
+        let (name, text) = (site.name(), site.text().replace('|', "\\|"));
         println!("| {name} | `{text}` | {grown} | {other} | {reach} |");
     }
     println!();
@@ -176,6 +208,25 @@ fn wrong_sites() -> Vec<String> {
     wrong
 }
 
+// The calls and the guards on regions of a kind.
+fn print_guards(counts: &BTreeMap<&'static str, Counts>, kind: Kind, name: &str) {
+    let of_kind = || {
+        let counts = counts.iter().filter(|(class, _)| kind_of(class) == kind);
+        counts.map(|(_, counts)| counts)
+    };
+    let calls: u64 = of_kind().map(|counts| counts.calls).sum();
+    let sum = |answer: &str| -> u64 {
+        let answers = of_kind().filter_map(|counts| counts.answers.get(answer));
+        answers.sum()
+    };
+    let [nothing, new, old] = NARROWED.map(sum);
+    let back = sum(TAKEN_BACK);
+    println!(
+        "On {name}: {calls} calls, of these {} guards that narrow ({old} by an old node), {nothing} that narrow nothing, {back} refused 7 after an alias was set",
+        new + old
+    );
+}
+
 pub fn print(rounds: &Rounds) {
     let counts = &rounds.comparison.counts;
     print_classes(counts);
@@ -186,6 +237,8 @@ pub fn print(rounds: &Rounds) {
     let calls: u64 = counts.values().map(|counts| counts.calls).sum();
     let kinds = rounds.comparison.retains.values();
     let retains: u64 = kinds.flat_map(|kinds| kinds.values()).sum();
+    print_guards(counts, Kind::Grown, "grown graphs");
+    print_guards(counts, Kind::Other, "other regions");
     println!("{calls} calls and {retains} retains compared, no difference");
 }
 

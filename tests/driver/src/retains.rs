@@ -15,7 +15,7 @@ pub struct Retain {
 }
 
 impl Retain {
-    fn new(keep: Vec<u8>, kind: &'static str) -> Self {
+    pub fn new(keep: Vec<u8>, kind: &'static str) -> Self {
         let mapping = keep.len();
         Retain {
             keep,
@@ -125,6 +125,19 @@ impl Source {
             1 => Retain::new(vec![0; scalars.len()], "none kept"),
             _ => Retain::new(self.closed(scalars), "a closed set kept"),
         }
+    }
+
+    // A retain that keeps every node, or of ten nodes about nine.
+    pub fn retain_most(&mut self, scalars: &[Scalar]) -> Retain {
+        if self.random.once_in(2) {
+            return Retain::new(vec![1; scalars.len()], "all kept");
+        }
+        let mut keep: Vec<u8> = scalars
+            .iter()
+            .map(|_| (!self.random.once_in(10)).into())
+            .collect();
+        close(scalars, &mut keep);
+        Retain::new(keep, "a closed set kept")
     }
 
     // Some of each kind.

@@ -1,6 +1,6 @@
-// The places where the original's builders return or choose a rule, by file and line. The build has each of them
-// counted in the metered copy, and fails if a text does not stand on its line exactly once.
-use Form::{Before, Empty, Expected, None, Pass, When};
+// The places where the original's builders and guards return or choose a rule, by file and line. The build has each of
+// them counted in the metered copy, and fails if a text does not stand on its line exactly once.
+use Form::{Arm, Before, Empty, Expected, None, Pass, Unless, Unlike, When};
 use Reach::{Grown, Never, Other};
 
 // The text of a place, and how it is counted.
@@ -14,6 +14,12 @@ pub enum Form {
     None(&'static str),
     // A condition, if it holds.
     When(&'static str),
+    // A condition, if it fails.
+    Unless(&'static str),
+    // What an arm gives, when it is come to.
+    Arm(&'static str),
+    // A statement, when it is come to and this pattern is not that of this place.
+    Unlike(&'static str, &'static str, &'static str),
     // An arm that does nothing.
     Empty,
     // An option that has to be there, by the text after it.
@@ -235,23 +241,124 @@ const MODULAR: &[Row] = &[
     (31, None("self.binary(ty, operation, a, b)"), Never(ANSWERED)),
 ];
 
+// Why these are not come to in a grown graph.
+const RANGED: &str = "the base of a sum that has a range has one";
+const CLOSED: &str = "a sum of Integers has its operands' sums as ends";
+
 #[rustfmt::skip]
 const ASSUME: &[Row] = &[
+    // unsigned_range
     (8, Before("return None;"), Grown),
     (11, Before("return None;"), Grown),
     (14, None("self.binary(ty, Binary::Sub, value, lower)"), Never(ANSWERED)),
     (16, Pass("self.binary(ScalarType::Bool, Binary::LessEqualUnsigned, offset, extent)"), Grown),
     (16, None("self.binary(ScalarType::Bool, Binary::LessEqualUnsigned, offset, extent)"), Never(ANSWERED)),
+    // resolve
+    (21, Before("id = *next;"), Grown),
+    // refine
+    (29, Before("return;"), Other(RANGED)),
+    (35, When("range == old"), Grown),
+    (35, When("range.min > range.max"), Grown),
+    (35, When("self.scalars[id].ty == ScalarType::Bool"), Grown),
+    (39, Before("self.aliases.insert(id, next);"), Grown),
+    (42, Before("origin = previous;"), Grown),
+    (44, Unlike("if let Operation::Binary(operation, base, constant)", "Operation::Binary(..)", "self.scalars[origin].operation"), Grown),
+    (45, Unless("self.scalars[base].ty == self.scalars[id].ty"), Grown),
+    (46, None("self.literal(constant)"), Grown),
+    (50, Unless("width < 128"), Grown),
+    (50, When("matches!(operation, Binary::Add | Binary::Sub)"), Grown),
+    (50, Unless("matches!(operation, Binary::Add | Binary::Sub)"), Grown),
+    (54, Before("(value as u128).wrapping_add(offset)"), Grown),
+    (56, Before("(value as u128).wrapping_sub(offset)"), Grown),
+    (60, When("min <= max"), Grown),
+    (60, Unless("min <= max"), Grown),
+    (62, When("matches!(operation, Binary::Add | Binary::Sub)"), Grown),
+    (62, Unless("matches!(operation, Binary::Add | Binary::Sub)"), Grown),
+    (66, Pass("value.checked_add(offset)"), Grown),
+    (68, Pass("value.checked_sub(offset)"), Grown),
+    (71, None("convert(range.min)"), Other(CLOSED)),
+    (71, None("convert(range.max)"), Other(CLOSED)),
+    (73, Arm("None"), Grown),
+    (76, Before("self.refine(base, Some(min), Some(max));"), Grown),
+    // assume_guard
+    (85, Before("condition = value;"), Grown),
+    (89, Before("return;"), Grown),
+    (92, None("self.scalars[a].range"), Grown),
+    (92, None("self.scalars[b].range"), Grown),
+    (93, Before("return;"), Grown),
+    (96, When("left.min < 0"), Grown),
+    (96, When("right.min < 0"), Grown),
+    (98, Before("return;"), Grown),
+    (101, Before("op = Binary::Equal;"), Grown),
+    (106, Before("self.refine(a, None, right.max.checked_sub(1));"), Grown),
+    (106, None("right.max.checked_sub(1)"), Grown),
+    (107, Before("self.refine(b, left.min.checked_add(1), None);"), Grown),
+    (107, None("left.min.checked_add(1)"), Grown),
+    (110, Before("self.refine(a, Some(right.min), None);"), Grown),
+    (111, Before("self.refine(b, None, Some(left.max));"), Grown),
+    (114, Before("self.refine(a, None, Some(right.max));"), Grown),
+    (115, Before("self.refine(b, Some(left.min), None);"), Grown),
+    (118, Before("self.refine(a, right.min.checked_add(1), None);"), Grown),
+    (118, None("right.min.checked_add(1)"), Grown),
+    (119, Before("self.refine(b, None, left.max.checked_sub(1));"), Grown),
+    (119, None("left.max.checked_sub(1)"), Grown),
+    (122, Before("self.refine(a, Some(right.min), Some(right.max));"), Grown),
+    (123, Before("self.refine(b, Some(left.min), Some(left.max));"), Grown),
+    (126, When("right.min == right.max"), Grown),
+    (126, Unless("right.min == right.max"), Grown),
+    (129, When("left.min == right.min"), Grown),
+    (129, Unless("left.min == right.min"), Grown),
+    (130, None("left.min.checked_add(1)"), Grown),
+    (132, When("left.max == right.max"), Grown),
+    (132, Unless("left.max == right.max"), Grown),
+    (133, None("left.max.checked_sub(1)"), Grown),
+    (137, When("left.min == left.max"), Grown),
+    (137, Unless("left.min == left.max"), Grown),
+    (140, When("right.min == left.min"), Grown),
+    (140, Unless("right.min == left.min"), Grown),
+    (141, None("right.min.checked_add(1)"), Grown),
+    (143, When("right.max == left.max"), Grown),
+    (143, Unless("right.max == left.max"), Grown),
+    (144, None("right.max.checked_sub(1)"), Grown),
+    (149, Empty, Grown),
 ];
 
-const FILES: [(&str, &[Row]); 4] = [
+#[rustfmt::skip]
+const LINEAR: &[Row] = &[
+    // guard
+    (14, Before("condition = value;"), Grown),
+    (18, Before("return None;"), Grown),
+    (29, Before("return None;"), Grown),
+    (34, Expected(".is_some_and("), Grown),
+    (34, When("range.min >= 0 && range.max <= i128::from(u64::MAX)"), Grown),
+    (34, Unless("range.min >= 0 && range.max <= i128::from(u64::MAX)"), Grown),
+    (36, Unless("host64"), Grown),
+    (38, Arm("Binary::LessUnsigned"), Grown),
+    (39, Arm("Binary::LessEqualUnsigned"), Grown),
+    (40, Arm("op"), Grown),
+    (43, Before("Some(Guard {"), Grown),
+    // matches
+    (58, Arm("left == right"), Grown),
+    (59, Arm("left != right"), Grown),
+    (60, Arm("left < right"), Grown),
+    (61, Arm("left <= right"), Grown),
+    (62, Arm("unreachable!(\"host word comparison\")"), Never("question 4 leaves out the others")),
+    (65, Before("super::evaluate_binary(self.operation, ScalarType::Bool, left, right)"), Grown),
+    (66, Expected(".expect("), Never("a comparison always has a value")),
+    (69, When("value == self.expected"), Grown),
+    (69, Unless("value == self.expected"), Grown),
+];
+
+const FILES: [(&str, &[Row]); 5] = [
     ("native.rs", NATIVE),
     ("bitfield.rs", BITFIELD),
     ("modular.rs", MODULAR),
     ("assume.rs", ASSUME),
+    ("linear.rs", LINEAR),
 ];
 
-pub const COUNT: usize = NATIVE.len() + BITFIELD.len() + MODULAR.len() + ASSUME.len();
+pub const COUNT: usize =
+    NATIVE.len() + BITFIELD.len() + MODULAR.len() + ASSUME.len() + LINEAR.len();
 
 // All of them; their numbers are their places in this list.
 pub fn sites() -> impl Iterator<Item = Site> {
@@ -266,18 +373,27 @@ pub fn sites() -> impl Iterator<Item = Site> {
 }
 
 impl Site {
-    // File and line, and what leaves by None apart.
+    // File and line, and apart what leaves by None, a condition that fails and a pattern that is not there.
     pub fn name(&self) -> String {
         let Site { file, line, .. } = self;
         match self.form {
             None(_) | Expected(_) => format!("{file}:{line} None"),
+            Unless(_) => format!("{file}:{line} not"),
+            Unlike(..) => format!("{file}:{line} unlike"),
             _ => format!("{file}:{line}"),
         }
     }
 
     pub fn text(&self) -> &'static str {
         match self.form {
-            Before(text) | Pass(text) | None(text) | When(text) | Expected(text) => text,
+            Before(text)
+            | Pass(text)
+            | None(text)
+            | When(text)
+            | Unless(text)
+            | Arm(text)
+            | Unlike(text, ..)
+            | Expected(text) => text,
             Empty => "{}",
         }
     }

@@ -1,11 +1,11 @@
-// How long a call takes on each side, by the number of nodes: `effect`, the thinnest over `insert`, and each builder.
-// The original is timed as it is, not the metered one.
+// How long a call takes on each side, by the number of nodes: `effect`, the thinnest over `insert`, each builder, a
+// retain and a guard. The original is timed as it is, not the metered one.
 use crate::call::{Call, Side};
 use crate::native;
 use crate::original::apply;
 use crate::plain::{Binary, Graph, ScalarType, Unary};
 use crate::words::{REGION, encode};
-use ScalarType::{Bits, Integer};
+use ScalarType::{Bits, Bool, Integer};
 use std::hint::black_box;
 use std::time::Instant;
 
@@ -28,6 +28,10 @@ enum Work {
     Slice(usize),
     Concat(usize),
     UnsignedRange(usize),
+    // A constant, whether a node is below another, and a guard on such a condition.
+    Limit,
+    IsBelow(usize, usize),
+    Guard(usize),
 }
 
 // A builder by its name, and its call on a node and the one after it.
@@ -51,6 +55,12 @@ impl Work {
             Work::Slice(id) => Some(graph.slice(id, 4, 8)),
             Work::Concat(id) => Some(graph.concat(id, id + 1, 16, 32)),
             Work::UnsignedRange(id) => graph.unsigned_range(id, 3, 200),
+            Work::Limit => Some(graph.constant(Bits(16), 200)),
+            Work::IsBelow(id, limit) => graph.binary(Bool, Binary::LessUnsigned, id, limit),
+            Work::Guard(condition) => {
+                graph.assume_guard(condition, true);
+                None
+            }
         }
     }
 
@@ -87,6 +97,20 @@ impl Work {
                 id: id as u64,
                 low: 3,
                 high: 200,
+            },
+            Work::Limit => Call::Constant {
+                ty: bits,
+                value: 200,
+            },
+            Work::IsBelow(id, limit) => Call::Binary {
+                ty: native::ScalarType::Bool.into(),
+                op: 32,
+                left: id as u64,
+                right: limit as u64,
+            },
+            Work::Guard(condition) => Call::AssumeGuard {
+                condition: condition as u64,
+                expected: 1,
             },
         }
     }
@@ -257,17 +281,39 @@ fn print_retains(tiers: &mut Tiers) {
     }
 }
 
+// Guards on comparisons of leaves with a constant, each of which narrows one leaf by a new node, and the same guards
+// again, which narrow nothing.
+fn print_guards(tiers: &mut Tiers) {
+    println!("| guard, nodes | narrows | original | in graph | asking |");
+    println!("|---|---|---|---|---|");
+    for nodes in BUILDER_NODES {
+        let limit = nodes - 4;
+        let mut before: Vec<Work> = (0..limit).map(Work::Leaf).collect();
+        before.push(Work::Limit);
+        before.extend((0..3).map(|id| Work::IsBelow(id, limit)));
+        let guards: Vec<Work> = (limit + 1..nodes).map(Work::Guard).collect();
+        let [original, twin, asking] = new_times(tiers, &before, &guards);
+        println!("| {nodes} | one node | {original:.0} | {twin:.0} | {asking:.0} |");
+        let known = [&before[..], &guards[..]].concat();
+        let works: Vec<Work> = (0..CALLS).map(|turn| guards[turn % 3]).collect();
+        let [original, twin, asking] = old_times(tiers, &known, &works);
+        println!("| {nodes} | nothing | {original:.0} | {twin:.0} | {asking:.0} |");
+    }
+}
+
 pub fn print(asking: &mut dyn Side, twin: &mut dyn Side) {
     let mut tiers = Tiers { asking, twin };
     println!(
         "Nanoseconds for a call. `asking` asks question 1 first, which alone takes `question 1`;"
     );
     println!(
-        "`in graph` is its twin that does not ask. First `effect`, then each builder, then retain.\n"
+        "`in graph` is its twin that does not ask. First `effect`, then each builder, retain and guards.\n"
     );
     print_leaves(&mut tiers);
     println!();
     print_builders(&mut tiers);
     println!();
     print_retains(&mut tiers);
+    println!();
+    print_guards(&mut tiers);
 }

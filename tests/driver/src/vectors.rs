@@ -4,8 +4,8 @@ use crate::call::{Answer, Call, Side};
 use crate::edges::{self, Step};
 use crate::generate::{Source, Spread};
 use crate::lines::{
-    DONE, HELD, MAPPING, answer_line, call_line, peek_line, place_lines, poke_line, retain_line,
-    words_line,
+    DONE, HELD, MAPPING, answer_line, call_line, has_line, peek_line, place_lines, poke_line,
+    retain_line, words_line,
 };
 use crate::meter::{self, Kind};
 use crate::native::ScalarType;
@@ -19,9 +19,15 @@ const SEED: u64 = 0x5ca1_ab1e_0004_0002;
 const LISTS: usize = 56;
 const CALLS: usize = 120;
 const CALLS_AFTER_RETAIN: usize = 12;
-const REGIONS: usize = 60;
+const GUARDED_LISTS: usize = 24;
+const GUARD_PLANS: usize = 4;
+const CALLS_OF_PLAN: usize = 14;
+const GUARDS_AGAIN: usize = 6;
+const REGIONS: usize = 84;
 const CALLS_ON_REGION: usize = 24;
 const DAMAGES: usize = 4;
+// The most nodes of a small region: each node takes three lines.
+const SMALL: u64 = 64;
 // The room left in a graph that is filled, and the calls then.
 const ROOM: usize = 6;
 const CALLS_ON_FULL: usize = 150;
@@ -33,6 +39,9 @@ struct Vectors {
     source: Source,
     calls: usize,
     retains: usize,
+    // The guards that narrow, and those refused 7 after an alias was set.
+    narrowed: usize,
+    taken_back: usize,
 }
 
 impl Vectors {
@@ -49,6 +58,10 @@ impl Vectors {
         let answer = Original.call(&mut self.held[..len], call);
         self.output += &answer_line(answer, &self.held);
         self.calls += 1;
+        if meter::aliases() > 0 {
+            self.narrowed += usize::from(answer == Answer::Done);
+            self.taken_back += usize::from(answer == Answer::Refused(7));
+        }
         meter::count_as(Kind::Fixed);
         answer
     }
@@ -69,6 +82,15 @@ impl Vectors {
         true
     }
 
+    // The retain, or the words that it leaves where a line has no place for it.
+    fn retain_or_place(&mut self, retain: &Retain) {
+        if !self.retain(REGION, retain) {
+            let mut region = self.held[..REGION].to_vec();
+            Original.retain(&mut region, &retain.keep, &mut vec![0; retain.mapping]);
+            self.place(&region);
+        }
+    }
+
     // Retains that are refused, with a mapping that is not zeros, one that is not, and calls on what it leaves.
     fn retains(&mut self) {
         let scalars = readable(&self.held[..REGION]);
@@ -82,6 +104,7 @@ impl Vectors {
         }
         let last = self.source.retain(&scalars);
         if self.retain(REGION, &last) {
+            self.source.renumber(&last.keep);
             let region = self.held[..REGION].to_vec();
             self.source.look_at(&region);
             self.random_calls(CALLS_AFTER_RETAIN);
@@ -99,8 +122,12 @@ impl Vectors {
                 Step::Region(region) => self.place(&region),
                 Step::Look(at) => self.look(at),
                 Step::Call(len, call) => {
-                    self.call(len, &call);
+                    // What only numbers can say has no line.
+                    if has_line(&call) {
+                        self.call(len, &call);
+                    }
                 }
+                Step::Retain(keep) => self.retain_or_place(&Retain::new(keep, "all kept")),
             }
         }
     }
@@ -121,6 +148,28 @@ impl Vectors {
         self.retains();
     }
 
+    // Calls that lead to guards, a retain that keeps most nodes, and the guards again: their Refines stand there
+    // already.
+    fn guarded(&mut self) {
+        self.place(&[0; REGION]);
+        self.source.start();
+        for _ in 0..GUARD_PLANS {
+            let scalars = readable(&self.held[..REGION]);
+            self.source.begin_guards(&scalars);
+            self.random_calls(CALLS_OF_PLAN);
+        }
+        let scalars = readable(&self.held[..REGION]);
+        let retain = self.source.retain_most(&scalars);
+        if self.retain(REGION, &retain) {
+            self.source.renumber(&retain.keep);
+        }
+        for _ in 0..GUARDS_AGAIN {
+            if let Some(call) = self.source.guard_again() {
+                self.call(REGION, &call);
+            }
+        }
+    }
+
     // A grown graph, filled up to a little room.
     fn full(&mut self) {
         self.grown();
@@ -131,9 +180,12 @@ impl Vectors {
         self.random_calls(CALLS_ON_FULL);
     }
 
-    // A region that no calls could have grown, and damage to it.
-    fn other(&mut self) {
-        let region = self.source.other_region();
+    // A region that no calls could have grown, mostly a small one, and damage to it.
+    fn other(&mut self, is_small: bool) {
+        let mut region = self.source.other_region();
+        while is_small && region[0] > SMALL {
+            region = self.source.other_region();
+        }
         self.source.look_at(&region);
         self.place(&region);
         self.random_calls(CALLS_ON_REGION);
@@ -156,10 +208,8 @@ impl Vectors {
         while !missing.is_empty() {
             seed += 1;
             let (region, calls) = trial(seed);
-            if missing
-                .iter()
-                .all(|site| meter::hits(Kind::Other, *site) == 0)
-            {
+            let is_new = |site: &usize| meter::hits(Kind::Other, *site) > 0;
+            if !missing.iter().any(is_new) {
                 continue;
             }
             self.place(&region);
@@ -180,7 +230,7 @@ fn missing() -> Vec<usize> {
     all.filter(is_missing).map(|(number, _)| number).collect()
 }
 
-// A list of calls, on the region of zeros or on one that no calls could have grown.
+// A list of calls, on the region of zeros or on one that no calls could have grown. No calls on a large one.
 fn trial(seed: u64) -> (Vec<u64>, Vec<Call>) {
     let mut source = Source::new(seed, false);
     let region = if source.random.once_in(2) {
@@ -193,7 +243,12 @@ fn trial(seed: u64) -> (Vec<u64>, Vec<Call>) {
     let mut held = region.clone();
     let mut calls = vec![];
     meter::count_as(Kind::Other);
-    for _ in 0..CALLS_ON_REGION {
+    let turns = if region[0] > SMALL {
+        0
+    } else {
+        CALLS_ON_REGION
+    };
+    for _ in 0..turns {
         let call = source.call(&readable(&held), Spread::Few);
         source.hear(Original.call(&mut held, &call));
         calls.push(call);
@@ -210,14 +265,19 @@ pub fn write(folder: &str) {
         source: Source::new(SEED, false),
         calls: 0,
         retains: 0,
+        narrowed: 0,
+        taken_back: 0,
     };
     vectors.edges();
     for _ in 0..LISTS {
         vectors.grown();
     }
+    for _ in 0..GUARDED_LISTS {
+        vectors.guarded();
+    }
     vectors.full();
-    for _ in 0..REGIONS {
-        vectors.other();
+    for turn in 0..REGIONS {
+        vectors.other(turn % 12 > 0);
     }
     let random = vectors.calls;
     vectors.cover();
@@ -229,5 +289,9 @@ pub fn write(folder: &str) {
         "{calls} calls and {} retains in {lines} lines, seed {SEED:#x}; {} of the calls for rare sites",
         vectors.retains,
         calls - random
+    );
+    println!(
+        "{} guards narrow, {} are refused 7 after an alias was set",
+        vectors.narrowed, vectors.taken_back
     );
 }

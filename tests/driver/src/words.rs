@@ -1,6 +1,6 @@
 // The region, written from document 01's text: the words of a graph, the graph of words, and question 1.
 use crate::native::opened;
-use crate::native::{Graph, Operation, Range, Scalar, ScalarType, Unary};
+use crate::native::{Binary, Graph, Operation, Range, Scalar, ScalarType, Unary};
 use crate::operators::{self, BINARY_CODE, UNARY_CODE};
 
 // Stands in lent words before a call, where it must leave them alone.
@@ -8,6 +8,8 @@ pub const MARK: u64 = 0x5ca1_ab1e_5ca1_ab1e;
 pub const REGION: usize = 6145;
 pub const WORDS: usize = 12;
 pub const LIMIT: usize = 512;
+// The place of the alias among a node's words.
+pub const ALIAS: usize = 11;
 
 static ZEROS: [u64; REGION] = [0; REGION];
 
@@ -63,6 +65,17 @@ fn unary_words(operation: Unary) -> [u64; 2] {
     [UNARY + place, width.into()]
 }
 
+pub fn binary_code(operation: Binary) -> u64 {
+    let place = operators::BINARY
+        .iter()
+        .position(|other| *other == operation);
+    BINARY + place.expect("every operator is listed") as u64
+}
+
+fn alias_word(alias: Option<usize>) -> u64 {
+    alias.map_or(0, |id| id as u64 + 1)
+}
+
 fn operation_words(operation: &Operation) -> [u64; 4] {
     match *operation {
         Operation::Constant(value) => {
@@ -87,11 +100,7 @@ fn operation_words(operation: &Operation) -> [u64; 4] {
             [code, id as u64, 0, width]
         }
         Operation::Binary(operation, left, right) => {
-            let place = operators::BINARY
-                .iter()
-                .position(|other| *other == operation);
-            let place = place.expect("every operator is listed") as u64;
-            [BINARY + place, left as u64, right as u64, 0]
+            [binary_code(operation), left as u64, right as u64, 0]
         }
     }
 }
@@ -101,7 +110,7 @@ pub fn node_words(scalar: &Scalar, alias: Option<usize>) -> [u64; WORDS] {
     words[..2].copy_from_slice(&type_words(scalar.ty));
     words[2..7].copy_from_slice(&range_words(scalar.range));
     words[7..11].copy_from_slice(&operation_words(&scalar.operation));
-    words[11] = alias.map_or(0, |id| id as u64 + 1);
+    words[ALIAS] = alias_word(alias);
     words
 }
 
@@ -117,6 +126,13 @@ pub fn encode_from(graph: &Graph, count: usize, words: &mut [u64]) {
     for (id, scalar) in graph.scalars.iter().enumerate().skip(count) {
         let node = node_words(scalar, opened::alias(graph, id));
         words[start_of(id)..][..WORDS].copy_from_slice(&node);
+    }
+}
+
+// Writes every node's alias.
+pub fn encode_aliases(graph: &Graph, words: &mut [u64]) {
+    for id in 0..graph.scalars.len() {
+        words[start_of(id) + ALIAS] = alias_word(opened::alias(graph, id));
     }
 }
 
@@ -175,7 +191,7 @@ pub fn read_node(words: &[u64]) -> Option<Node> {
         _ => return None,
     };
     let operation = operation_of(&words[7..11])?;
-    let alias = words[11].checked_sub(1).map(|id| id as usize);
+    let alias = words[ALIAS].checked_sub(1).map(|id| id as usize);
     Some(Node {
         scalar: Scalar {
             ty,

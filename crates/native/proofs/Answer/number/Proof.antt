@@ -1,4 +1,3 @@
--- `Answer::number` meets its contract: one case for each answer.
 use borrow.Author.Needs.{needs}
 use Rattle.native.proofs.Answer.number.Statement.{statement}
 use Rattle.native.proofs.Answer.number.Tie as tie
@@ -8,6 +7,9 @@ enum-known-self c = search needs
 
 enum-told : tie.Need-enum-told
 enum-told c = search needs
+
+enum-told-2 : tie.Need-enum-told-2
+enum-told-2 c = search needs
 
 enum-known-self-2 : tie.Need-enum-known-self-2
 enum-known-self-2 c = search needs
@@ -25,7 +27,10 @@ returns-2 : tie.Need-returns-2
 returns-2 c = search needs
 
 returns-3 : tie.Need-returns-3
-returns-3 c = simp (c .before .before .self2 .given .1, ← c .number .ensures)
+returns-3 c = search needs
+
+returns-4 : tie.Need-returns-4
+returns-4 c = simp (c .before .before .self2 .given .1, ← c .number .ensures)
 
 pub number-spec : {M : Type 1} → statement M
 number-spec =
@@ -33,9 +38,11 @@ number-spec =
     (tie.spec
     enum-known-self
     enum-told
+    enum-told-2
     enum-known-self-2
     number-requires
     sub-result
     returns
     returns-2
-    returns-3)
+    returns-3
+    returns-4)

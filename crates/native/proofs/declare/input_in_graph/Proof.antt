@@ -1,3 +1,4 @@
+use borrow.Author.Tests.{not-true, not-false}
 -- `input_in_graph` meets its contract: question 2, question 5, then the leaf.
 use mathlib.Core.Bool.{true, false}
 use mathlib.Core.Path.{_≡_}

@@ -1,0 +1,5 @@
+pub mod Laws
+pub mod Below
+pub mod Same
+pub mod Grows
+pub mod Steps

@@ -1,0 +1,175 @@
+-- Saving alias words and taking back: what was saved of a graph puts it back, whatever nodes were added and aliases set. Assumes nothing.
+use mathlib.Core.Path.{_≡_, refl, sym, ap, _∙_, subst}
+use mathlib.Core.Bool.{Bool, true, false, cond}
+use mathlib.Core.List.{List}
+use mathlib.Core.Logic.{_⊎_, inl, inr, ⊎-elim}
+use mathlib.Core.Option.{Option}
+use Prim.Native.Nat.{ℕ, zero, suc, _+_, _-_, _*_, _/_, _%_, _<_, _≤_}
+use native.Mathlib.Nat.{div-add-mod', mod-lt, le-refl}
+use native.Mathlib.Numerals.{add-one}
+use native.Mathlib.Omega.{arith}
+use lib.Dec.{ltb, lit<}
+use lib.ListN.{length, getD, set, length-set}
+use lib.Seq.{getD-set-same, getD-set-other}
+use Rattle.word.proofs.Integer.{lt-or-ge}
+use Rattle.range.specs.Interval.{Interval, both}
+use Rattle.range.specs.declared.ScalarType.{ScalarType}
+use Rattle.graph.specs.Layout.{WORDS, KEY, ALIAS, FIRST, LIMIT, REGION, nodeStart, wordAt, countOf}
+use Rattle.graph.specs.Node.{Op, aliasAt}
+use Rattle.graph.specs.Insert.{inserted}
+use Rattle.graph.specs.Alias.{aliased, savedUpTo, saved, restoredUpTo, restored}
+use Rattle.graph.specs.WellFormed.{isGraph}
+use Rattle.graph.proofs.Grown.{Graph, graph-facts}
+use Rattle.graph.proofs.Kept.{inserted-kept}
+use Rattle.graph.proofs.Wiping.{cleared-one}
+
+-- ---- lengths
+
+pub length-saved : (n : ℕ) (g s : List ℕ) → length (savedUpTo n g s) ≡ length s
+length-saved zero g s = refl
+length-saved (suc n) g s = length-set (savedUpTo n g s) n (aliasAt g n) ∙ length-saved n g s
+
+pub length-restored : (n : ℕ) (s h : List ℕ) → length (restoredUpTo n s h) ≡ length h
+length-restored zero s h = refl
+length-restored (suc n) s h = length-set (restoredUpTo n s h) (nodeStart n + ALIAS) (getD s n 0) ∙ length-restored n s h
+
+-- ---- the loops
+
+-- one alias word more is saved
+pub saved-more : (n : ℕ) (g s w : List ℕ) → w ≡ savedUpTo n g s → set w n (aliasAt g n) ≡ savedUpTo (n + 1) g s
+saved-more n g s w e = rw (add-one, e)
+
+pub saved-all : (n : ℕ) (g s w : List ℕ) → n ≡ countOf g → w ≡ savedUpTo n g s → w ≡ saved g s
+unfolding saved
+saved-all n g s w c e = e ∙ ap (λ (k : ℕ). savedUpTo k g s) c
+
+-- one alias word more is put back
+pub restored-more : (n : ℕ) (s h w : List ℕ) → w ≡ restoredUpTo n s h → set w (nodeStart n + ALIAS) (getD s n 0) ≡ restoredUpTo (n + 1) s h
+restored-more n s h w e = rw (add-one, e)
+
+pub restored-all : (n m : ℕ) (s h w : List ℕ) → n ≡ m → w ≡ restoredUpTo n s h → w ≡ restoredUpTo m s h
+restored-all n m s h w c e = e ∙ ap (λ (k : ℕ). restoredUpTo k s h) c
+
+-- ---- word by word
+
+-- the alias word of node m was saved
+saved-at : (n : ℕ) (g s : List ℕ) (m : ℕ) → n ≤ length s → m < n → getD (savedUpTo n g s) m 0 ≡ aliasAt g m
+saved-at zero g s m l h = absurd (omega arith)
+saved-at (suc n) g s m l h =
+    ⊎-elim
+    (λ (p : m < n). getD-set-other (savedUpTo n g s) n m (aliasAt g n) 0 (λ e. omega arith) ∙ saved-at n g s m (omega arith) p)
+    (λ (p : n ≤ m).
+    let e : n ≡ m = omega arith in
+    subst (λ (k : ℕ). getD (set (savedUpTo n g s) n (aliasAt g n)) k 0 ≡ aliasAt g k) e
+    (getD-set-same (savedUpTo n g s) n (aliasAt g n) 0 (omega (arith, length-saved n g s))))
+    (lt-or-ge m n)
+
+-- the alias word of node m is the one saved
+restored-alias : (n : ℕ) (s h : List ℕ) (m : ℕ) → nodeStart n ≤ length h → m < n → wordAt (restoredUpTo n s h) m ALIAS ≡ getD s m 0
+restored-alias zero s h m l p = absurd (omega arith)
+restored-alias (suc n) s h m l p =
+    ⊎-elim
+    (λ (q : m < n).
+    getD-set-other (restoredUpTo n s h) (nodeStart n + ALIAS) (nodeStart m + ALIAS) (getD s n 0) 0 (λ e. omega arith)
+    ∙ restored-alias n s h m (omega arith) q)
+    (λ (q : n ≤ m).
+    let e : n ≡ m = omega arith in
+    subst (λ (k : ℕ). wordAt (set (restoredUpTo n s h) (nodeStart n + ALIAS) (getD s n 0)) k ALIAS ≡ getD s k 0) e
+    (getD-set-same (restoredUpTo n s h) (nodeStart n + ALIAS) (getD s n 0) 0 (omega (arith, length-restored n s h))))
+    (lt-or-ge m n)
+
+-- the other words stay
+restored-other : (n : ℕ) (s h : List ℕ) (i : ℕ) → ((m : ℕ) → m < n → i ≡ nodeStart m + ALIAS → ⊥) → getD (restoredUpTo n s h) i 0 ≡ getD h i 0
+restored-other zero s h i d = refl
+restored-other (suc n) s h i d =
+    getD-set-other (restoredUpTo n s h) (nodeStart n + ALIAS) i (getD s n 0) 0 (λ e. d n (omega arith) e)
+    ∙ restored-other n s h i (λ m l e. d m (omega arith) e)
+
+-- ---- nodes that stay but for their aliases
+
+-- the keys of the first n nodes of g stand in h
+pub record Same (n : ℕ) (g h : List ℕ) : Type 0 where
+  pub size : length h ≡ REGION
+  pub more : n ≤ countOf h
+  pub key : (m k : ℕ) → m < n → k < KEY → wordAt h m k ≡ wordAt g m k
+
+pub same-self : (g : List ℕ) → Graph g → Same (countOf g) g g
+same-self g f = record { size = f .length; more = le-refl (countOf g); key = λ m k l h. refl }
+
+-- an insertion keeps them
+pub inserted-same : (n : ℕ) (g h : List ℕ) (t : ScalarType) (r : Option Interval) (o : Op) → Same n g h → Same n g (inserted h t r o .words)
+inserted-same n g h t r o s =
+    let k = inserted-kept n h h t r o (record { size = s .size; more = s .more; same = λ i p q. refl }) in
+    record {
+      size = k .size;
+      more = k .more;
+      key = λ m j l q. k .same (nodeStart m + j) (omega arith) (omega arith) ∙ s .key m j l q;
+    }
+
+-- an alias changes none of them
+pub aliased-same : {k : ℕ} {g h : List ℕ} → Same k g h → (n m : ℕ) → Same k g (aliased h n m)
+unfolding aliased
+aliased-same {k} {g} {h} s n m = by (both (ltb n LIMIT) (ltb m LIMIT))
+  where
+    by : (t : Bool) → Same k g (cond t (set h (nodeStart n + ALIAS) (m + 1)) h)
+    by true = record {
+      size = length-set h (nodeStart n + ALIAS) (m + 1) ∙ s .size;
+      more = rw (getD-set-other h (nodeStart n + ALIAS) 0 (m + 1) 0 (λ e. omega arith)) (s .more);
+      key = λ i j l q. getD-set-other h (nodeStart n + ALIAS) (nodeStart i + j) (m + 1) 0 (λ e. omega arith) ∙ s .key i j l q;
+    }
+    by false = s
+
+-- ---- taking back
+
+-- a word of the first n nodes is one of their keys' or an alias
+word-of : (n i : ℕ) → 0 < i → i < nodeStart n → (m : ℕ) × (m < n) × ((i ≡ nodeStart m + ALIAS) ⊎ ((k : ℕ) × (k < KEY) × (i ≡ nodeStart m + k)))
+word-of n i p q = (m, omega arith, ⊎-elim (λ (l : k < KEY). inr (k, l, at)) (λ (l : KEY ≤ k). inl (omega arith)) (lt-or-ge k KEY))
+  where
+    m : ℕ
+    m = (i - FIRST) / WORDS
+
+    k : ℕ
+    k = (i - FIRST) % WORDS
+
+    parts : m * WORDS + k ≡ i - FIRST
+    parts = div-add-mod' (i - FIRST) WORDS
+
+    small : k < WORDS
+    small = mod-lt (i - FIRST) (lit< tt)
+
+    at : i ≡ nodeStart m + k
+    at = omega (arith, parts, small)
+
+module _ (g h s : List ℕ) (e : isGraph g ≡ true) (room : length s ≡ LIMIT) (same : Same (countOf g) g h) where
+  f : Graph g
+  f = graph-facts g e
+
+  back : (i : ℕ) → 0 < i → i < nodeStart (countOf g) → getD g i 0 ≡ getD (restoredUpTo (countOf g) (savedUpTo (countOf g) g s) h) i 0
+  back i p q = go (word-of (countOf g) i p q)
+    where
+      go : (m : ℕ) × (m < countOf g) × ((i ≡ nodeStart m + ALIAS) ⊎ ((k : ℕ) × (k < KEY) × (i ≡ nodeStart m + k)))
+          → getD g i 0 ≡ getD (restoredUpTo (countOf g) (savedUpTo (countOf g) g s) h) i 0
+      go (m, l, inl a) =
+          rw a
+          (sym
+          (restored-alias (countOf g) (savedUpTo (countOf g) g s) h m (omega (arith, f .count, same .size)) l
+          ∙ saved-at (countOf g) g s m (omega (arith, f .count)) l))
+      go (m, l, inr (k, b, a)) =
+          rw a
+          (sym
+          (restored-other (countOf g) (savedUpTo (countOf g) g s) h (nodeStart m + k) (λ j q z. omega arith)
+          ∙ same .key m k l b))
+
+  -- what was saved of a graph, put back into what its nodes have become, is the graph
+  pub restored-graph : restored (countOf g) (saved g s) h ≡ g
+  unfolding restored saved
+  restored-graph =
+      sym
+      (cleared-one (countOf g) (restoredUpTo (countOf g) (savedUpTo (countOf g) g s) h) g
+      (omega (arith, f .count, same .size, length-restored (countOf g) (savedUpTo (countOf g) g s) h))
+      (record {
+        size = f .length ∙ sym (length-restored (countOf g) (savedUpTo (countOf g) g s) h ∙ same .size);
+        count = refl;
+        kept = back;
+        empty = f .rest;
+      }))
