@@ -5,33 +5,60 @@ use mathlib.Core.Bool.{Bool, true, false, not}
 use mathlib.Core.Option.{Option, none, some}
 use mathlib.Core.Logic.{_↔_, _⊎_, Iff·trans}
 use Prim.Native.Nat.{ℕ, _+_, _-_, _*_, _/_, _%_, _^_, _<_, _≤_}
-use native.Mathlib.Nat.{add-mod-mod, mod-eq-of-lt, div-one, sub-add-cancel, lt-of-le-of-lt, lt-of-lt-of-le, div-le-self, mod-le}
+use native.Mathlib.Nat.{zero-add, add-mod-mod, mod-eq-of-lt, div-one, sub-add-cancel, lt-of-le-of-lt, lt-of-lt-of-le, div-le-self, mod-le}
 use native.Mathlib.Omega.{arith}
-use borrow.Author.Tests.{ne-eqb}
+use borrow.Author.Tests.{ne-eqb, le-leb, lt-ltb, ltb-true}
 use lib.Bits.{and-lt, or-lt, xor-lt}
-use lib.Dec.{eqb, ltb}
+use lib.Dec.{eqb, ltb, leb}
 use lib.IntN.{ℤ, pos, negℤ, _+ℤ_, _-ℤ_, _*ℤ_}
 use lib.Pow.{pow-pos, pow-mono, shr-le, not-mod}
 use lib.Signed.{ltZ, leZ, shrZ, quotZ, remZ}
+use Rattle.range.specs.declared.ScalarType.{ScalarType}
 use Rattle.range.specs.declared.ScalarType.the-variants as ty
-use Rattle.word.specs.Value.{residue, signed, fits, fitted, only, quotient, remainder}
+use Rattle.word.specs.Value.{residue, signed, fits, fitted, provided, only, quotient, remainder}
 use Rattle.word.proofs.Integer.{residue-lt, residue-add, residue-sub, residue-mul, residue-neg, residue-pos, residue-signed}
 use Rattle.evaluate.specs.declared.Unary.the-variants as un
 use Rattle.evaluate.specs.declared.Binary.the-variants as bi
-use Rattle.evaluate.specs.Evaluate.{evaluateUnary, evaluateBinary, mapped, reduced, fromBool, sliceValue, concatValue}
-use Rattle.evaluate.specs.SmtLib.{concat, extract, sign-extend, bvnot, bvneg, bvand, bvor, bvxor, bvadd, bvsub, bvmul, bvshl, bvlshr, bvashr, msb, bvult, bvule, bvslt, bvsle, bvudiv, bvurem, bvsdiv, bvsrem}
-use Rattle.evaluate.proofs.Answers.{given, mapped-twice, divided, divided-some}
+use Rattle.evaluate.specs.Evaluate.{evaluateUnary, evaluateBinary, mapped, reduced, fromBool, shiftWidth, arithmeticShift, sliceValue, concatValue}
+use Rattle.evaluate.specs.SmtLib.{concat, extract, zero-extend, sign-extend, bvnot, bvneg, bvand, bvor, bvxor, bvadd, bvsub, bvmul, bvshl, bvlshr, bvashr, msb, bvult, bvule, bvslt, bvsle, bvudiv, bvurem, bvsdiv, bvsrem}
+use Rattle.evaluate.proofs.Answers.{given, divided, divided-some}
 use Rattle.evaluate.proofs.Division.{quotient-value, remainder-value, at-128, unsigned-quotient, unsigned-remainder, quotient-first, quotient-second, quotient-both, remainder-first, remainder-second, remainder-both}
 use Rattle.evaluate.proofs.Fields.{negative, by-tops, narrow, residue-narrow, extended-field, fits-below, negate-fits}
 use Rattle.evaluate.proofs.Orders.{test-answer, less-agrees, at-most-agrees}
 use Rattle.evaluate.proofs.Shifts.{shift-left, shift-right, arithmetic, shift-sign, sign-extended}
 
--- ---- unary
+-- ---- the values of a type as bit vectors of its width
 
-pub truncate-agrees : (w a : ℕ) → 0 < w → evaluateUnary (un.Truncate w) a ≡ some (extract (w - 1) 0 a)
-unfolding evaluateUnary
-truncate-agrees w a p =
-    let e : w - 1 - 0 + 1 ≡ w = omega arith in sym (ap some (λ i. div-one a i % 2 ^ e i))
+-- 1 for Bool, 128 for Integer
+abbrev pub vectorWidth : ScalarType → ℕ
+vectorWidth ty.Bool = 1
+vectorWidth (ty.Bits w) = w
+vectorWidth ty.Integer = 128
+
+-- a value of the type is left as it is
+reduced-value : (t : ScalarType) (v : ℕ) → v < 2 ^ vectorWidth t → reduced t v ≡ v
+reduced-value ty.Bool v h = refl
+reduced-value (ty.Bits w) v h = mod-eq-of-lt h
+reduced-value ty.Integer v h = refl
+
+-- an integer as an answer in 128 bits
+signed-answer : (t : ScalarType) → vectorWidth t ≡ 128 → (o : Option ℤ) → mapped (reduced t) (mapped (residue 128) o) ≡ mapped (residue 128) o
+signed-answer t whole none = refl
+signed-answer t whole (some z) = ap some (reduced-value t (residue 128 z) (rw whole (residue-lt 128 z)))
+
+-- what f gives in 128 bits, for Bits and Integer
+reduced-word : (t : ScalarType) (f : ℕ → ℕ) → (t ≡ ty.Bool → ⊥) → (f 128 % 2 ^ vectorWidth t ≡ f (vectorWidth t)) → reduced t (f 128) ≡ f (vectorWidth t)
+reduced-word ty.Bool f not-bool e = absurd (not-bool refl)
+reduced-word (ty.Bits w) f not-bool e = e
+reduced-word ty.Integer f not-bool e = refl
+
+-- an arithmetic shift reads that width
+shift-width : (t : ScalarType) → (t ≡ ty.Bool → ⊥) → shiftWidth t ≡ vectorWidth t
+shift-width ty.Bool not-bool = absurd (not-bool refl)
+shift-width (ty.Bits w) not-bool = refl
+shift-width ty.Integer not-bool = refl
+
+-- ---- unary
 
 pub not-agrees : (w a : ℕ) → 0 < w → w ≤ 128 → a < 2 ^ w → mapped (reduced (ty.Bits w)) (evaluateUnary un.BitNot a) ≡ some (bvnot w a)
 unfolding evaluateUnary
@@ -40,12 +67,14 @@ not-agrees w a p h l = ap some (over 128 h)
     over : (v : ℕ) → w ≤ v → (2 ^ v - 1 - a) % 2 ^ w ≡ bvnot w a
     over v h = subst (λ (u : ℕ). (2 ^ u - 1 - a) % 2 ^ w ≡ bvnot w a) (sub-add-cancel h) (not-mod (v - w) w l)
 
-pub sign-extend-agrees : (w t a : ℕ) → 0 < w → w ≤ t → t ≤ 128 → a < 2 ^ w
-    → mapped (λ (v : ℕ). v % 2 ^ t) (evaluateUnary (un.SignExtend w) a) ≡ some (sign-extend w (t - w) a)
+-- to Bits or Integer
+pub sign-extend-agrees : (w : ℕ) (t : ScalarType) (a : ℕ) → 0 < w → w ≤ vectorWidth t → vectorWidth t ≤ 128 → (t ≡ ty.Bool → ⊥) → a < 2 ^ w
+    → mapped (reduced t) (evaluateUnary (un.SignExtend w) a) ≡ some (sign-extend w (vectorWidth t - w) a)
 unfolding evaluateUnary
-sign-extend-agrees w t a p h g l =
+sign-extend-agrees w t a p h g not-bool l =
+    let z : ℤ = signed w a in
     rw (ne-eqb w 0 (omega arith), extended-field a w p (omega arith) l)
-    (ap some (residue-narrow (signed w a) 128 t g ∙ sign-extended w a p l t h))
+    (ap some (reduced-word t (λ v. residue v z) not-bool (residue-narrow z 128 (vectorWidth t) g) ∙ sign-extended w a p l (vectorWidth t) h))
 
 -- an integer of 128 bits as an answer, if it fits
 fitted-agrees : (z : ℤ) (v : ℕ) → v ≡ residue 128 z → (mapped (residue 128) (fitted z) ≡ some v) ↔ (fits z ≡ true)
@@ -59,11 +88,35 @@ negate-agrees a l =
     Iff·trans (fitted-agrees z (bvneg 128 a) (sym (ap (bvneg 128) (residue-signed 128 a l)) ∙ residue-neg 128 (signed 128 a)))
     (Iff·trans (fits-below z) (negate-fits 128 a (omega arith) l))
 
--- ---- slice and concat
+-- ---- slice, truncate and concat
 
-pub slice-agrees : (offset width v : ℕ) → 0 < width → sliceValue offset width v ≡ extract (offset + width - 1) offset v
-slice-agrees offset width v p =
-    let e : offset + width - 1 - offset + 1 ≡ width = omega arith in rw e
+-- ((_ extract i j) s) of s of width m: it exists where j ≤ i < m
+abbrev pub extract-of : ℕ → ℕ → ℕ → ℕ → Option ℕ
+extract-of m i j s = mapped (extract i j) (provided (leb j i) (only (ltb i m) s))
+
+-- of an operand of width m
+pub slice-agrees : (m offset width v : ℕ) → 0 < width
+    → (some (sliceValue offset width v) ≡ extract-of m (offset + width - 1) offset v) ↔ (offset + width ≤ m)
+slice-agrees m offset width v p =
+    let i : ℕ = offset + width - 1 in
+    let e : i - offset + 1 ≡ width = omega arith in
+    let g = given (extract i offset) (leb offset i) (ltb i m) v (sliceValue offset width v) in
+    (λ q. omega (arith, ltb-true i m (g .0 (sym q) .1)), λ h. sym (g .1 (le-leb offset i (omega arith), lt-ltb i m (omega arith), rw e)))
+
+-- past the operand's bits: the same of the operand with zeros in front
+pub slice-past : (m offset width v : ℕ) → 0 < width
+    → let k : ℕ = offset + width - m in some (sliceValue offset width v) ≡ extract-of (m + k) (offset + width - 1) offset (zero-extend k v)
+slice-past m offset width v p = slice-agrees (m + (offset + width - m)) offset width v p .1 (omega arith)
+
+-- of an operand of width m, to no more bits: the slice at 0
+pub truncate-agrees : (m w a : ℕ) → 0 < w → (evaluateUnary (un.Truncate w) a ≡ extract-of m (w - 1) 0 a) ↔ (w ≤ m)
+unfolding evaluateUnary
+truncate-agrees m w a p = rw (div-one, zero-add) at (slice-agrees m 0 w a p)
+
+-- to no fewer bits
+pub zero-extend-agrees : (w t a : ℕ) → w ≤ t → a < 2 ^ w → evaluateUnary (un.Truncate t) a ≡ some (zero-extend (t - w) a)
+unfolding evaluateUnary
+zero-extend-agrees w t a h l = ap some (mod-eq-of-lt (lt-of-lt-of-le l (pow-mono h)))
 
 pub concat-agrees : (n h l : ℕ) → concatValue n h l ≡ concat n h l
 concat-agrees n h l = refl
@@ -82,15 +135,62 @@ module _ (f : ℤ → ℤ → ℤ) (g : ℕ → ℕ → ℕ → ℕ) (hom : (w :
       ∙ sym (on-residues w (pos a) (pos b) a b (residue-pos w a l) (residue-pos w b m))
 
   integer-agrees : (a b : ℕ) → a < 2 ^ 128 → b < 2 ^ 128
-      → (mapped (λ (v : ℕ). v) (mapped (residue 128) (fitted (f (signed 128 a) (signed 128 b)))) ≡ some (g 128 a b))
+      → (mapped (reduced ty.Integer) (mapped (residue 128) (fitted (f (signed 128 a) (signed 128 b)))) ≡ some (g 128 a b))
       ↔ (fits (f (signed 128 a) (signed 128 b)) ≡ true)
   integer-agrees a b l m =
       let z : ℤ = f (signed 128 a) (signed 128 b) in
-      rw (mapped-twice (λ (v : ℕ). v) (residue 128) (fitted z))
+      rw (signed-answer ty.Integer refl (fitted z))
       (fitted-agrees z (g 128 a b) (on-residues 128 (signed 128 a) (signed 128 b) a b (residue-signed 128 a l) (residue-signed 128 b m)))
 
 sub-residues : (w : ℕ) (x y : ℤ) → bvsub w (residue w x) (residue w y) ≡ residue w (x -ℤ y)
 sub-residues w x y = add-mod-mod (residue w x) (2 ^ w - residue w y) (2 ^ w) ∙ residue-sub w x y
+
+-- ---- at a type
+
+module _ (t : ScalarType) (a b : ℕ) (l : a < 2 ^ vectorWidth t) (m : b < 2 ^ vectorWidth t) where
+  pub and-agrees : evaluateBinary bi.And t a b ≡ some (bvand a b)
+  unfolding evaluateBinary
+  and-agrees = ap some (reduced-value t (bvand a b) (and-lt (vectorWidth t) a b l m))
+
+  pub or-agrees : evaluateBinary bi.Or t a b ≡ some (bvor a b)
+  unfolding evaluateBinary
+  or-agrees = ap some (reduced-value t (bvor a b) (or-lt (vectorWidth t) a b l m))
+
+  pub xor-agrees : evaluateBinary bi.Xor t a b ≡ some (bvxor a b)
+  unfolding evaluateBinary
+  xor-agrees = ap some (reduced-value t (bvxor a b) (xor-lt (vectorWidth t) a b l m))
+
+  pub udiv-agrees : (evaluateBinary bi.DivideUnsigned t a b ≡ some (bvudiv (vectorWidth t) a b)) ↔ (b ≡ 0 → ⊥)
+  unfolding evaluateBinary
+  udiv-agrees = divided-some t b (a / b) (reduced-value t (a / b) (lt-of-le-of-lt (div-le-self a b) l)) (2 ^ vectorWidth t - 1)
+
+  pub urem-agrees : (evaluateBinary bi.RemainderUnsigned t a b ≡ some (bvurem a b)) ↔ (b ≡ 0 → ⊥)
+  unfolding evaluateBinary
+  urem-agrees = divided-some t b (a % b) (reduced-value t (a % b) (lt-of-le-of-lt (mod-le a b) l)) a
+
+-- shifts, for every amount b; SMT-LIB's take one of the same width, below 2 ^ w
+module _ (t : ScalarType) (not-bool : t ≡ ty.Bool → ⊥) (some-width : 0 < vectorWidth t) (at-most : vectorWidth t ≤ 128)
+    (a b : ℕ) (l : a < 2 ^ vectorWidth t) where
+  pub shl-agrees : evaluateBinary bi.ShiftLeft t a b ≡ some (bvshl (vectorWidth t) a b)
+  unfolding evaluateBinary
+  shl-agrees =
+      ap some
+      (ap (reduced t) (shift-left a b) ∙ reduced-word t (λ v. bvshl v a b) not-bool (narrow (a * 2 ^ b) 128 (vectorWidth t) at-most))
+
+  pub lshr-agrees : evaluateBinary bi.ShiftRight t a b ≡ some (bvlshr a b)
+  unfolding evaluateBinary
+  lshr-agrees =
+      ap some
+      (ap (reduced t) (shift-right a b (lt-of-lt-of-le l (pow-mono at-most))) ∙ reduced-value t (bvlshr a b) (lt-of-le-of-lt (shr-le a b) l))
+
+  pub ashr-agrees : evaluateBinary bi.ArithmeticShiftRight t a b ≡ some (bvashr (vectorWidth t) a b)
+  unfolding evaluateBinary
+  ashr-agrees =
+      let w : ℕ = vectorWidth t in
+      let z : ℤ = shrZ (signed w a) (2 ^ b) in
+      ap some
+      (ap (reduced t) (ap (λ (v : ℕ). arithmeticShift v a b) (shift-width t not-bool) ∙ arithmetic w a some-width l at-most b)
+      ∙ reduced-word t (λ v. residue v z) not-bool (residue-narrow z 128 w at-most) ∙ shift-sign w a some-width l b)
 
 -- ---- at Bits(w)
 
@@ -108,43 +208,6 @@ module _ (w a b : ℕ) (some-width : 0 < w) (at-most : w ≤ 128) (l : a < 2 ^ w
   pub mul-agrees : evaluateBinary bi.Mul (ty.Bits w) a b ≡ some (bvmul w a b)
   unfolding evaluateBinary
   mul-agrees = ap some (bits-agree _*ℤ_ bvmul residue-mul w a b 128 at-most l m)
-
-  pub and-agrees : evaluateBinary bi.And (ty.Bits w) a b ≡ some (bvand a b)
-  unfolding evaluateBinary
-  and-agrees = ap some (mod-eq-of-lt (and-lt w a b l m))
-
-  pub or-agrees : evaluateBinary bi.Or (ty.Bits w) a b ≡ some (bvor a b)
-  unfolding evaluateBinary
-  or-agrees = ap some (mod-eq-of-lt (or-lt w a b l m))
-
-  pub xor-agrees : evaluateBinary bi.Xor (ty.Bits w) a b ≡ some (bvxor a b)
-  unfolding evaluateBinary
-  xor-agrees = ap some (mod-eq-of-lt (xor-lt w a b l m))
-
-  pub shl-agrees : evaluateBinary bi.ShiftLeft (ty.Bits w) a b ≡ some (bvshl w a b)
-  unfolding evaluateBinary
-  shl-agrees = ap some (ap (λ (n : ℕ). n % 2 ^ w) (shift-left a b) ∙ narrow (a * 2 ^ b) 128 w at-most)
-
-  pub lshr-agrees : evaluateBinary bi.ShiftRight (ty.Bits w) a b ≡ some (bvlshr a b)
-  unfolding evaluateBinary
-  lshr-agrees =
-      ap some
-      (ap (λ (n : ℕ). n % 2 ^ w) (shift-right a b (lt-of-lt-of-le l (pow-mono at-most))) ∙ mod-eq-of-lt (lt-of-le-of-lt (shr-le a b) l))
-
-  pub ashr-agrees : evaluateBinary bi.ArithmeticShiftRight (ty.Bits w) a b ≡ some (bvashr w a b)
-  unfolding evaluateBinary
-  ashr-agrees =
-      ap some
-      (ap (λ (n : ℕ). n % 2 ^ w) (arithmetic w a some-width l at-most b) ∙ residue-narrow (shrZ (signed w a) (2 ^ b)) 128 w at-most
-      ∙ shift-sign w a some-width l b)
-
-  pub udiv-agrees : (evaluateBinary bi.DivideUnsigned (ty.Bits w) a b ≡ some (bvudiv w a b)) ↔ (b ≡ 0 → ⊥)
-  unfolding evaluateBinary
-  udiv-agrees = divided-some w b (a / b) (lt-of-le-of-lt (div-le-self a b) l) (2 ^ w - 1)
-
-  pub urem-agrees : (evaluateBinary bi.RemainderUnsigned (ty.Bits w) a b ≡ some (bvurem a b)) ↔ (b ≡ 0 → ⊥)
-  unfolding evaluateBinary
-  urem-agrees = divided-some w b (a % b) (lt-of-le-of-lt (mod-le a b) l) a
 
   -- below width 128 the evaluator reads no field as an integer below 0
   pub slt-agrees : (evaluateBinary bi.LessSigned ty.Bool a b ≡ some (fromBool (bvslt w a b))) ↔ ((w ≡ 128) ⊎ (msb w a ≡ msb w b))
@@ -178,44 +241,21 @@ module _ (a b : ℕ) (l : a < 2 ^ 128) (m : b < 2 ^ 128) where
   unfolding evaluateBinary
   integer-mul-agrees = integer-agrees _*ℤ_ bvmul residue-mul a b l m
 
-  pub integer-shl-agrees : evaluateBinary bi.ShiftLeft ty.Integer a b ≡ some (bvshl 128 a b)
-  unfolding evaluateBinary
-  integer-shl-agrees = ap some (shift-left a b)
+  -- the divisions at Bits(128) and Integer: not by 0, and not -(2 ^ 127) by -1
+  module _ (t : ScalarType) (whole : vectorWidth t ≡ 128) where
+    pub sdiv-agrees-128 : (evaluateBinary bi.DivideSigned t a b ≡ some (bvsdiv 128 a b))
+        ↔ ((b ≡ 0 → ⊥) × ((a ≡ 2 ^ 127) × (b ≡ 2 ^ 128 - 1) → ⊥))
+    unfolding evaluateBinary quotient
+    sdiv-agrees-128 =
+        rw (signed-answer t whole (quotient (signed 128 a) (signed 128 b)))
+        (at-128 a b l m (quotZ (signed 128 a) (signed 128 b)) (bvsdiv 128 a b) (quotient-value 128 a b (omega arith) l m))
 
-  pub integer-lshr-agrees : evaluateBinary bi.ShiftRight ty.Integer a b ≡ some (bvlshr a b)
-  unfolding evaluateBinary
-  integer-lshr-agrees = ap some (shift-right a b l)
-
-  pub integer-ashr-agrees : evaluateBinary bi.ArithmeticShiftRight ty.Integer a b ≡ some (bvashr 128 a b)
-  unfolding evaluateBinary
-  integer-ashr-agrees = ap some (arithmetic 128 a (omega arith) l (omega arith) b ∙ shift-sign 128 a (omega arith) l b)
-
-  -- not by 0, and not -(2 ^ 127) by -1
-  pub sdiv-agrees-128 : (evaluateBinary bi.DivideSigned (ty.Bits 128) a b ≡ some (bvsdiv 128 a b))
-      ↔ ((b ≡ 0 → ⊥) × ((a ≡ 2 ^ 127) × (b ≡ 2 ^ 128 - 1) → ⊥))
-  unfolding evaluateBinary quotient
-  sdiv-agrees-128 = at-128 a b l m (quotZ (signed 128 a) (signed 128 b)) (bvsdiv 128 a b) (quotient-value 128 a b (omega arith) l m)
-
-  pub srem-agrees-128 : (evaluateBinary bi.RemainderSigned (ty.Bits 128) a b ≡ some (bvsrem 128 a b))
-      ↔ ((b ≡ 0 → ⊥) × ((a ≡ 2 ^ 127) × (b ≡ 2 ^ 128 - 1) → ⊥))
-  unfolding evaluateBinary remainder
-  srem-agrees-128 = at-128 a b l m (remZ (signed 128 a) (signed 128 b)) (bvsrem 128 a b) (remainder-value 128 a b (omega arith) l m)
-
--- a signed answer is the same for Integer and for Bits(128)
-whole : (o : Option ℤ) → mapped (reduced ty.Integer) (mapped (residue 128) o) ≡ mapped (reduced (ty.Bits 128)) (mapped (residue 128) o)
-whole none = refl
-whole (some z) = ap some (sym (mod-eq-of-lt (residue-lt 128 z)))
-
-module _ (a b : ℕ) (l : a < 2 ^ 128) (m : b < 2 ^ 128) where
-  pub integer-sdiv-agrees : (evaluateBinary bi.DivideSigned ty.Integer a b ≡ some (bvsdiv 128 a b))
-      ↔ ((b ≡ 0 → ⊥) × ((a ≡ 2 ^ 127) × (b ≡ 2 ^ 128 - 1) → ⊥))
-  unfolding evaluateBinary
-  integer-sdiv-agrees = rw (whole (quotient (signed 128 a) (signed 128 b))) (sdiv-agrees-128 a b l m)
-
-  pub integer-srem-agrees : (evaluateBinary bi.RemainderSigned ty.Integer a b ≡ some (bvsrem 128 a b))
-      ↔ ((b ≡ 0 → ⊥) × ((a ≡ 2 ^ 127) × (b ≡ 2 ^ 128 - 1) → ⊥))
-  unfolding evaluateBinary
-  integer-srem-agrees = rw (whole (remainder (signed 128 a) (signed 128 b))) (srem-agrees-128 a b l m)
+    pub srem-agrees-128 : (evaluateBinary bi.RemainderSigned t a b ≡ some (bvsrem 128 a b))
+        ↔ ((b ≡ 0 → ⊥) × ((a ≡ 2 ^ 127) × (b ≡ 2 ^ 128 - 1) → ⊥))
+    unfolding evaluateBinary remainder
+    srem-agrees-128 =
+        rw (signed-answer t whole (remainder (signed 128 a) (signed 128 b)))
+        (at-128 a b l m (remZ (signed 128 a) (signed 128 b)) (bvsrem 128 a b) (remainder-value 128 a b (omega arith) l m))
 
 -- ---- `=`, `distinct` and `not` of SMT-LIB's core theory
 
@@ -260,7 +300,7 @@ module _ (w a b : ℕ) (some-width : 0 < w) (under : w < 128) (l : a < 2 ^ w) (m
       → (2 ^ (w - 1) ≤ a → 2 ^ (w - 1) ≤ b → (n ≡ residue w (d (negative w a) (negative w b))) ↔ (a ≡ b))
       → (mapped (reduced (ty.Bits w)) (only (ltb 0 b) n) ≡ some v) ↔ agreeDivision F (msb w a) (msb w b) w a b
   below-128 F n v d h e neither some-F first second both =
-      let q = divided w b n h v in
+      let q = divided (ty.Bits w) b n (mod-eq-of-lt h) v in
       let some-set : 2 ^ (w - 1) ≤ b → b ≡ 0 → ⊥ = λ g z. omega (arith, pow-pos (w - 1)) in
       let k =
       by-tops w a b some-width l m

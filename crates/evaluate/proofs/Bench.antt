@@ -2,7 +2,7 @@
 -- Assumes nothing.
 use mathlib.Core.Path.{_≡_, refl, ap, ap₂}
 use mathlib.Core.Bool.{Bool, true, false}
-use mathlib.Core.List.{List, [], _∷_}
+use mathlib.Core.List.{List, [], _∷_, _++_}
 use mathlib.Core.Option.{Option, none, some}
 use Prim.Native.Nat.{ℕ, zero, suc, _-_, _^_, _<_}
 use native.Mathlib.Nat.{le-of-suc-le-suc, not-suc-le-zero}
@@ -15,7 +15,8 @@ use Rattle.range.specs.declared.ScalarType.the-variants as ty
 use Rattle.word.specs.Value.{residue, signed, fits, quotient, remainder, eqZ}
 use Rattle.evaluate.specs.declared.Unary.the-variants as un
 use Rattle.evaluate.specs.declared.Binary.the-variants as bi
-use Rattle.evaluate.specs.Evaluate.{evaluateUnary, evaluateBinary, sliceValue}
+use Rattle.evaluate.specs.Evaluate.{evaluateUnary, evaluateBinary, fromBool, sliceValue}
+use Rattle.evaluate.specs.SmtLib.{bvslt}
 
 -- ---- answers as lists: none is empty
 
@@ -81,7 +82,7 @@ rows [] t k h = absurd (not-suc-le-zero h)
 rows (r ∷ rs) t zero h = same-equal (r .0) (r .1) (both-parts (same (r .0) (r .1)) (every rs) t .0)
 rows (r ∷ rs) t (suc k) h = rows rs (both-parts (same (r .0) (r .1)) (every rs) t .1) k (le-of-suc-le-suc h)
 
--- ---- the bench
+-- ---- the bench, with SMT-LIB's answer, at width 8, after that of LessSigned
 
 abbrev bench : List Row
 bench =
@@ -90,7 +91,7 @@ bench =
     ∷ (integer (evaluateUnary un.Negate (pattern (negsuc (2 ^ 127 - 1)))), [])
     ∷ (number (evaluateBinary bi.ShiftLeft (ty.Bits 8) 129 1), pos 2 ∷ [])
     ∷ (number (evaluateBinary bi.ArithmeticShiftRight (ty.Bits 8) 128 200), pos 255 ∷ [])
-    ∷ (number (evaluateBinary bi.LessSigned ty.Bool 128 1), pos 0 ∷ [])
+    ∷ (number (evaluateBinary bi.LessSigned ty.Bool 128 1) ++ number (some (fromBool (bvslt 8 128 1))), pos 0 ∷ pos 1 ∷ [])
     ∷ (integer (evaluateBinary bi.DivideSigned ty.Integer (pattern (negsuc 6)) 2), negsuc 2 ∷ [])
     ∷ (integer (evaluateBinary bi.RemainderSigned ty.Integer (pattern (negsuc 6)) 3), negsuc 0 ∷ [])
     ∷ (number (evaluateUnary (un.LeadingZeros 8) 16), pos 3 ∷ [])

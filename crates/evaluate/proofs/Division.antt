@@ -14,11 +14,11 @@ use lib.Pow.{pow-pos, pow-mono}
 use lib.Signed.{mag, quotZ, remZ}
 use Rattle.range.specs.declared.ScalarType.the-variants as ty
 use Rattle.word.specs.Value.{residue, signed, fits, only, provided, quotient, remainder}
-use Rattle.word.proofs.Integer.{residue-lt, residue-pos, residue-negsuc}
+use Rattle.word.proofs.Integer.{residue-pos, residue-negsuc}
 use Rattle.evaluate.specs.declared.Binary.the-variants as bi
 use Rattle.evaluate.specs.Evaluate.{mapped, reduced, evaluateBinary}
 use Rattle.evaluate.specs.SmtLib.{bySigns, bvneg, bvudiv, bvurem, bvsdiv, bvsrem}
-use Rattle.evaluate.proofs.Answers.{given, mapped-twice}
+use Rattle.evaluate.proofs.Answers.{given}
 use Rattle.evaluate.proofs.Fields.{halves, negative, by-top, by-tops, narrow, negated, negated-some, fits-below, negative-below, signed-narrow}
 
 -- ---- SMT-LIB's divisions
@@ -105,18 +105,16 @@ quotient-fits w a b p l m =
 -- z, the quotient or the remainder, as an answer, against v
 module _ (a b : ℕ) (l : a < 2 ^ 128) (m : b < 2 ^ 128) where
   pub at-128 : (z : ℤ) (v : ℕ) → ((b ≡ 0 → ⊥) → v ≡ residue 128 z)
-      → (mapped (reduced (ty.Bits 128)) (mapped (residue 128)
-      (provided (ltb 0 (natAbs (signed 128 b))) (only (fits (quotZ (signed 128 a) (signed 128 b))) z))) ≡ some v)
+      → (mapped (residue 128) (provided (ltb 0 (natAbs (signed 128 b))) (only (fits (quotZ (signed 128 a) (signed 128 b))) z)) ≡ some v)
       ↔ ((b ≡ 0 → ⊥) × ((a ≡ 2 ^ 127) × (b ≡ 2 ^ 128 - 1) → ⊥))
   at-128 z v e =
       let q : ℤ = quotZ (signed 128 a) (signed 128 b) in
       let t : Bool = ltb 0 (natAbs (signed 128 b)) in
-      let g = given (λ (y : ℤ). residue 128 y % 2 ^ 128) t (fits q) z v in
+      let g = given (residue 128) t (fits q) z v in
       let d = divisor-some 128 b (omega arith) m in
-      let f = quotient-fits 128 a b (omega arith) l m in
-      rw (mapped-twice (reduced (ty.Bits 128)) (residue 128) (provided t (only (fits q) z))) (
+      let f = quotient-fits 128 a b (omega arith) l m in (
         λ o. let c = g .0 o in (d .0 (c .0), f .0 (fits-below q .0 (c .1))),
-        λ c. g .1 (d .1 (c .0), fits-below q .1 (f .1 (c .1)), mod-eq-of-lt (residue-lt 128 z) ∙ sym (e (c .0))),
+        λ c. g .1 (d .1 (c .0), fits-below q .1 (f .1 (c .1)), sym (e (c .0))),
       )
 
 -- ---- what they give in fewer bits: the unsigned quotient and remainder

@@ -1,4 +1,4 @@
--- Small words, the low bits of a word, and counts as u32. Assumes nothing.
+-- The low bits of a word, and counts as u32. Assumes nothing.
 use mathlib.Core.Path.{_≡_, sym, ap, _∙_}
 use mathlib.Core.Logic.{⊎-elim}
 use Prim.Native.Nat.{ℕ, min, _-_, _%_, _^_, _<_, _≤_}
@@ -9,11 +9,6 @@ use lib.Pow.{pow-mono}
 use Rattle.word.specs.Value.{val}
 use Rattle.word.specs.declared.Word.{Word}
 use Rattle.word.proofs.Integer.{lt-or-ge}
-
--- a word with a low half only
-pub small-word : (n : ℕ) → val (record { lo = n; hi = 0 }) ≡ n
-unfolding val
-small-word n = omega arith
 
 -- the low bits by a mask that stops at k bits, of a number of k bits
 pub masked : (k w v : ℕ) → v < 2 ^ k → bitAnd v (2 ^ min w k - 1) ≡ v % 2 ^ w

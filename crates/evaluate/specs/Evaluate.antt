@@ -126,9 +126,13 @@ evaluateBinary o t a b = mapped (reduced t) (binaryValue o t a b)
 
 -- ---- slice and concat
 
--- Slice: width bits from the offset up, zeros above bit 127
+-- the bits from the offset up, zeros above bit 127
+abbrev pub bitsFrom : ℕ → ℕ → ℕ
+bitsFrom offset v = v / 2 ^ offset
+
+-- Slice: width bits from the offset up
 abbrev pub sliceValue : ℕ → ℕ → ℕ → ℕ
-sliceValue offset width v = v / 2 ^ offset % 2 ^ width
+sliceValue offset width v = bitsFrom offset v % 2 ^ width
 
 -- Concat: the low part has that width
 abbrev pub concatValue : ℕ → ℕ → ℕ → ℕ

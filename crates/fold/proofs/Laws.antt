@@ -4,11 +4,12 @@ use mathlib.Core.Bool.{true, false}
 use mathlib.Core.List.{List}
 use mathlib.Core.Option.{none, some}
 use Prim.Native.Nat.{ℕ, zero, suc, _+_, _-_, _%_, _^_, _<_}
-use native.Mathlib.Nat.{zero-add, add-mod-right, mod-eq-of-lt}
+use native.Mathlib.Nat.{add-mod-right, mod-eq-of-lt}
 use native.Mathlib.Omega.{arith}
 use lib.Count.{ones}
 use Rattle.word.specs.Value.{val, isPowerOfTwo}
 use Rattle.word.specs.declared.Word.{Word}
+use Rattle.word.proofs.Products.{val-low}
 use Rattle.fold.specs.Shape.{refinedAt, down}
 
 -- ---- down a chain of Refines
@@ -22,11 +23,6 @@ module _ (g : List ℕ) (n : ℕ) where
   down-on k j p h e = rw (h, e)
 
 -- ---- words
-
--- a word whose high half is 0
-pub val-low : (n : ℕ) → val (record { lo = n; hi = 0 }) ≡ n
-unfolding val
-val-low n = zero-add n
 
 -- words below a width
 module _ (w : Word) (n : ℕ) (short : n < 2 ^ 16) (below : val w < n) where

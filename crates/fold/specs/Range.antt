@@ -82,7 +82,7 @@ bitsRule o a b =
     (cond (sameBinary o bi.ShiftLeft) (shlInterval a b)
     (cond (sameBinary o bi.ShiftRight) (shrInterval a b) none)))))
 
--- a range that lies in Bits(w), if there is one
+-- a range, if there is one, as that of a result in Bits(w)
 abbrev pub heldTo : ℕ → Option Interval → Option Interval
 heldTo w none = none
 heldTo w (some a) = filtered w a

@@ -136,6 +136,24 @@ module _ (g ws : List ℕ) (size : length g ≡ REGION) (all : length ws ≡ WOR
       (getD-set-other (paste g (nodeStart (countOf g)) ws WORDS) 0 (nodeStart n + k) (countOf g + 1) 0 (λ e. omega arith)
       ∙ stored-other g ws (countOf g) size all room n k d h)
 
+-- ---- nodes with a type, a range and an operation
+
+module _ (g : List ℕ) (t : ScalarType) (r : Option Interval) (o : Op)
+    (below : (n : ℕ) → n < countOf g → start (operationAt g n) ≤ n) (exact : (n : ℕ) → n < countOf g → Exact g n) where
+  -- a node with them lies past the operands and has their key
+  pub equal-key : (n : ℕ) → n < countOf g → nodeAt g n ≡ record { type = t; range = r; operation = o } → (start o ≤ n) × (sameKey g (wordsOf t r o) n ≡ true)
+  equal-key n h e = (
+    subst (λ (p : Op). start p ≤ n) (ap (λ (p : Parts). p .operation) e) (below n h),
+    same-key g (wordsOf t r o) n (length-words t r o) .1 (λ k q. exact n h k q ∙ ap (λ (p : Parts). getD (wordsFor p) k 0) e),
+  )
+
+  -- and would have been found
+  pub new-key : countOf g ≤ LIMIT → interned g o (wordsOf t r o) ≡ none → (n : ℕ) → n < countOf g → nodeAt g n ≡ record { type = t; range = r; operation = o } → ⊥
+  new-key l unknown n h e =
+      let same = equal-key n h e in
+      let fails = lowest-none (sameKey g (wordsOf t r o)) (min (start o) LIMIT) (min (countOf g) LIMIT - min (start o) LIMIT) unknown n (omega arith) (omega arith) in
+      false≢true (sym fails ∙ same .1)
+
 -- ---- the new node's words and key
 
 module _ (g : List ℕ) (t : ScalarType) (r : Option Interval) (o : Op) (size : length g ≡ REGION) (room : countOf g < LIMIT) (s : Stored t r o) where
@@ -151,14 +169,6 @@ module _ (g : List ℕ) (t : ScalarType) (r : Option Interval) (o : Op) (size : 
 
   module _ (below : (n : ℕ) → n < countOf g → start (operationAt g n) ≤ n) (exact : (n : ℕ) → n < countOf g → Exact g n)
       (unknown : interned g o (wordsOf t r o) ≡ none) where
-    -- a node with this key would have been found: it lies past the operands
-    new-key : (n : ℕ) → n < countOf g → nodeAt g n ≡ record { type = t; range = r; operation = o } → ⊥
-    new-key n l e =
-        let b : start o ≤ n = subst (λ (p : Op). start p ≤ n) (ap (λ (p : Parts). p .operation) e) (below n l) in
-        let same = same-key g (wordsOf t r o) n (length-words t r o) .1 (λ k h. exact n l k h ∙ ap (λ (p : Parts). getD (wordsFor p) k 0) e) in
-        let fails = lowest-none (sameKey g (wordsOf t r o)) (min (start o) LIMIT) (min (countOf g) LIMIT - min (start o) LIMIT) unknown n (omega arith) (omega arith) in
-        false≢true (sym fails ∙ same)
-
     pub keys-grown : Keys g → Keys (appended g (wordsOf t r o) .words)
     keys-grown keys n m a b e = go (decLt m (countOf g))
       where
@@ -172,7 +182,7 @@ module _ (g : List ℕ) (t : ScalarType) (r : Option Interval) (o : Op) (size : 
         go (yes l) = keys n m a l (sym (other n (omega arith)) ∙ e ∙ other m l)
         go (no l) =
             let q : m ≡ countOf g = omega (arith, count) in
-            new-key n (omega arith)
+            new-key g t r o below exact (omega arith) unknown n (omega arith)
             (sym (other n (omega arith)) ∙ e ∙ ap (nodeAt (appended g (wordsOf t r o) .words)) q ∙ node-new g t r o size room s)
 
 -- ---- question 1 of what is left

@@ -26,13 +26,14 @@ use Rattle.graph.proofs.Tests.{pass-of, all-pass}
 -- ---- tests
 
 -- what the passed tests of a chain show of what a second chain picks by them
-picked : {A : Type 0} (P : A → Type 0) (t : Bool) {a b : Bool} {x y : A} → (a ≡ true → P x) → (b ≡ true → P y) → cond t a b ≡ true → P (cond t x y)
-picked P true f h = f
-picked P false f h = h
+pub picked : {A : Type 0} (P : A → Type 0) (t : Bool) {a b : Bool} {x y : A} → (t ≡ true → a ≡ true → P x) → (t ≡ false → b ≡ true → P y)
+    → cond t a b ≡ true → P (cond t x y)
+picked P true f h = f refl
+picked P false f h = h refl
 
-chosen : {C : Type 0} (t : Bool) {a b : Bool} → (a ≡ true → C) → (b ≡ true → C) → cond t a b ≡ true → C
-chosen true f h = f
-chosen false f h = h
+pub chosen : {C : Type 0} (t : Bool) {a b : Bool} → (t ≡ true → a ≡ true → C) → (t ≡ false → b ≡ true → C) → cond t a b ≡ true → C
+chosen true f h = f refl
+chosen false f h = h refl
 
 -- ---- a graph
 
@@ -109,8 +110,10 @@ module _ (g : List ℕ) (count n : ℕ) where
 -- a type's width is a u16
 pub type-width : (code width : ℕ) → isType code width ≡ true → narrow width ≡ width
 type-width code width =
-    chosen (eqb code 0) none
-    (chosen (eqb code 1) (λ e. let h = leb-true width 128 e in omega arith) (chosen (eqb code 2) none (λ e. absurd (false≢true e))))
+    chosen (eqb code 0) (λ q. none)
+    (λ q.
+    chosen (eqb code 1) (λ q e. let h = leb-true width 128 e in omega arith)
+    (λ q. chosen (eqb code 2) (λ q. none) (λ q e. absurd (false≢true e))))
   where
     none : eqb width 0 ≡ true → narrow width ≡ width
     none e = let h = eqb-true width 0 e in omega arith
@@ -125,7 +128,8 @@ type-small code width = by (eqb code 0) (eqb code 1)
     by false true e = let l = leb-true width 128 e in omega arith
     by false false e = lit≤ tt
 
-fields : (x xlimit y ylimit z zlimit : ℕ) → areFields x xlimit y ylimit z zlimit ≡ true → (x < xlimit) × (y < ylimit) × (z < zlimit)
+-- fields that pass are below their bounds
+pub fields : (x xlimit y ylimit z zlimit : ℕ) → areFields x xlimit y ylimit z zlimit ≡ true → (x < xlimit) × (y < ylimit) × (z < zlimit)
 fields x xlimit y ylimit z zlimit e =
     let d = tests (ltb x xlimit) _ e in
     let f = tests (ltb y ylimit) (ltb z zlimit) (d .1) in
@@ -153,19 +157,28 @@ module _ (n code x y z : ℕ) where
 
   held : isOperation n code x y z ≡ true → Held (operationOf code x y z)
   held =
-      picked Held (eqb code 0) (λ e. let h = eqb-true z 0 e in (omega arith, omega arith))
-      (picked Held (eqb code 1) no-operand
-      (picked Held (eqb code 2) (λ e. let h = fields x n y 1 z 1 e in (omega arith, omega arith))
-      (picked Held (eqb code 3) no-operand
-      (picked Held (eqb code 4) (λ e. let h = fields x n y 128 z 129 e in (omega arith, omega arith))
-      (picked Held (eqb code 5) (λ e. let h = fields x n y n z 129 e in (omega arith, omega arith))
-      (λ e.
+      picked Held (eqb code 0) (λ q e. let h = eqb-true z 0 e in (omega arith, omega arith))
+      (λ q.
+      picked Held (eqb code 1) (λ q. no-operand)
+      (λ q.
+      picked Held (eqb code 2) (λ q e. let h = fields x n y 1 z 1 e in (omega arith, omega arith))
+      (λ q.
+      picked Held (eqb code 3) (λ q. no-operand)
+      (λ q.
+      picked Held (eqb code 4) (λ q e. let h = fields x n y 128 z 129 e in (omega arith, omega arith))
+      (λ q.
+      picked Held (eqb code 5) (λ q e. let h = fields x n y n z 129 e in (omega arith, omega arith))
+      (λ q e.
       operator (ltb code 20) _ _
-      (chosen (ltb code 10) (λ f. absurd (false≢true f))
-      (chosen (ltb code 13) (one-operand 1 (omega arith))
-      (chosen (ltb code 17) (one-operand 129 (omega arith))
-      (chosen (ltb code 20) (λ f. absurd (false≢true f))
-      (chosen (ltb code 39) (λ f. let h = fields x n y n z 1 f in (omega arith, omega arith, omega arith)) (λ f. absurd (false≢true f)))))) e)))))))
+      (chosen (ltb code 10) (λ q f. absurd (false≢true f))
+      (λ q.
+      chosen (ltb code 13) (λ q. one-operand 1 (omega arith))
+      (λ q.
+      chosen (ltb code 17) (λ q. one-operand 129 (omega arith))
+      (λ q.
+      chosen (ltb code 20) (λ q f. absurd (false≢true f))
+      (λ q.
+      chosen (ltb code 39) (λ q f. let h = fields x n y n z 1 f in (omega arith, omega arith, omega arith)) (λ q f. absurd (false≢true f)))))) e)))))))
 
   pub operation-facts : isOperation n code x y z ≡ true → Operation n code x y z
   operation-facts e =

@@ -4,20 +4,18 @@ use mathlib.Core.Logic.{⊎-elim, _↔_}
 use mathlib.Core.Bool.{Bool, true, false, cond}
 use mathlib.Core.List.{List, [], _∷_}
 use mathlib.Core.Option.{Option, none, some}
-use Prim.Native.Nat.{ℕ, zero, suc, min, _+_, _-_, _≤_, _<_}
-use native.Mathlib.Nat.{eq-or-lt-of-le, add-zero, min-eq-left, min-le-left}
+use Prim.Native.Nat.{ℕ, zero, suc, _+_, _≤_, _<_}
+use native.Mathlib.Nat.{eq-or-lt-of-le, add-zero}
 use native.Mathlib.Omega.{arith}
 use borrow.Author.Tests.{ltb-true, eqb-true, eq-eqb}
 use lib.Dec.{ltb, eqb}
 use lib.ListN.{length, getD, take}
-use Rattle.word.proofs.Integer.{lt-or-ge}
 use Rattle.range.specs.Interval.{Interval}
 use Rattle.range.specs.declared.ScalarType.{ScalarType}
 use Rattle.graph.specs.Layout.{WORDS, KEY, LIMIT, REGION, nodeStart, wordAt, countOf}
 use Rattle.graph.specs.Node.{Op, wordsOf}
-use Rattle.graph.specs.Insert.{made, id, resolve, sameWords, sameKey, lowest, start, interned, appended, foundOr, inserted}
+use Rattle.graph.specs.Insert.{made, id, resolve, sameWords, sameKey, lowest, interned, appended, foundOr, inserted}
 use Rattle.graph.proofs.Nodes.{length-words, appended-length, appended-full}
-use Rattle.graph.proofs.Search.{lowest-end}
 
 -- ---- the lowest number that passes a test
 
@@ -26,16 +24,6 @@ abbrev pub First : (ℕ → Bool) → ℕ → ℕ → ℕ → Type 0
 First p i j n = (i ≤ n) × (n < j) × (p n ≡ true) × ((m : ℕ) → i ≤ m → m < n → p m ≡ false)
 
 module _ (p : ℕ → Bool) where
-  -- numbers that fail may be skipped
-  pub lowest-skip : (i j k : ℕ) → i ≤ j → j ≤ i + k → ((m : ℕ) → i ≤ m → m < j → p m ≡ false) → lowest p i k ≡ lowest p j (i + k - j)
-  lowest-skip i j zero a b fails = let e : i + 0 - j ≡ 0 = omega arith in rw e
-  lowest-skip i j (suc k) a b fails =
-      let e : suc i + k - j ≡ i + suc k - j = omega arith in
-      ⊎-elim
-      (λ d. let l : i + suc k - j ≡ suc k = omega arith in rw l (ap (λ (x : ℕ). lowest p x (suc k)) d))
-      (λ l. rw (fails i (omega arith) l) (lowest-skip (suc i) j k (omega arith) (omega arith) (λ m c. fails m (omega arith)) ∙ ap (lowest p j) e))
-      (eq-or-lt-of-le a)
-
   -- what is found is the first that passes
   pub lowest-some : (i k n : ℕ) → lowest p i k ≡ some n → First p i (i + k) n
   lowest-some i zero n e = let z : _≡_ {A = ℕ} 0 1 = cc in absurd (omega arith)
@@ -94,31 +82,6 @@ all-words g at (suc n) (w ∷ ws) each =
 -- a node has the key of the words where each word of its key is theirs
 pub same-key : (g ws : List ℕ) (n : ℕ) → length ws ≡ WORDS → (sameKey g ws n ≡ true) ↔ ((k : ℕ) → k < KEY → wordAt g n k ≡ getD ws k 0)
 same-key g ws n l = (each-word g (nodeStart n) KEY ws (omega arith), all-words g (nodeStart n) KEY ws)
-
--- ---- interning
-
--- where the numbers below j fail, the search may start at j, be it past the end
-lowest-from : (p : ℕ → Bool) (j n : ℕ) → ((m : ℕ) → m < n → m < j → p m ≡ false) → lowest p j (n - j) ≡ lowest p 0 n
-lowest-from p j n fails =
-    ⊎-elim
-    (λ l.
-    let e : 0 + n - n ≡ 0 = omega arith in
-    lowest-end p j n (omega arith) ∙ sym (lowest-skip p 0 n n (omega arith) (omega arith) (λ m a b. fails m b (omega arith)) ∙ ap (lowest p n) e))
-    (λ l.
-    let e : 0 + n - j ≡ n - j = omega arith in
-    sym (lowest-skip p 0 j n (omega arith) (omega arith) (λ m a b. fails m (omega arith) b) ∙ ap (lowest p j) e))
-    (lt-or-ge n j)
-
--- where the nodes with this key are past the operands, the search past the operands finds the lowest of all
-pub interned-lowest : (g : List ℕ) (o : Op) (ws : List ℕ) → countOf g ≤ LIMIT → ((m : ℕ) → m < countOf g → sameKey g ws m ≡ true → start o ≤ m)
-    → interned g o ws ≡ lowest (sameKey g ws) 0 (countOf g)
-interned-lowest g o ws l past =
-    let j = min (start o) LIMIT in
-    ap (λ (n : ℕ). lowest (sameKey g ws) j (n - j)) (min-eq-left l) ∙ lowest-from (sameKey g ws) j (countOf g) (λ m a b. fails m a b (sameKey g ws m) refl)
-  where
-    fails : (m : ℕ) → m < countOf g → m < min (start o) LIMIT → (t : Bool) → sameKey g ws m ≡ t → t ≡ false
-    fails m a b true t = absurd (omega (arith, past m a t, min-le-left (start o) LIMIT))
-    fails m a b false t = refl
 
 -- ---- a node that is found, and a new one
 

@@ -10,3 +10,4 @@ pub mod Restored
 pub mod Appended
 pub mod Aliases
 pub mod Words
+pub mod Lowest

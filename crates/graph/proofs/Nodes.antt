@@ -13,7 +13,7 @@ use lib.Seq.{paste, getD-take, getD-drop, getD-append-add, getD-set-same, getD-s
 use Rattle.word.proofs.Integer.{lt-or-ge}
 use Rattle.range.specs.Interval.{Interval}
 use Rattle.range.specs.declared.ScalarType.{ScalarType}
-use Rattle.graph.specs.Layout.{WORDS, KEY, FIRST, LIMIT, REGION, nodeStart, wordAt, countOf}
+use Rattle.graph.specs.Layout.{WORDS, KEY, LIMIT, REGION, nodeStart, wordAt, countOf}
 use Rattle.graph.specs.Node.{Op, wordsOf, typeOf, typeAt, rangeOf, rangeAt, operationOf, operationAt, aliasAt, rangeFlag, rangeLow, rangeHigh, pair, nodeAt}
 use Rattle.graph.specs.Insert as insert
 use Rattle.graph.specs.Insert.{id, made, appended, follow}
@@ -66,9 +66,6 @@ module _ (g ws : List ℕ) (n : ℕ) (size : length g ≡ REGION) (all : length 
 
   pub stored-length : length (paste g (nodeStart n) ws WORDS) ≡ length g
   stored-length = length-paste g (nodeStart n) ws WORDS inside enough
-
-  pub stored-head : (i : ℕ) → i < FIRST → getD (paste g (nodeStart n) ws WORDS) i 0 ≡ getD g i 0
-  stored-head i h = paste-below g (nodeStart n) ws WORDS inside enough i (omega arith)
 
   pub stored-new : (k : ℕ) → k < WORDS → wordAt (paste g (nodeStart n) ws WORDS) n k ≡ getD ws k 0
   stored-new k h = paste-in g (nodeStart n) ws WORDS inside enough k h

@@ -1,4 +1,4 @@
--- Question 1: is the region a graph? Its clauses in document 01's order, on the words.
+-- Question 1: is the region a graph? On the words; unused words are 0.
 use mathlib.Core.Bool.{Bool, true, false, cond}
 use mathlib.Core.List.{List, [], _∷_}
 use Prim.Native.Nat.{ℕ, zero, suc, _-_}

@@ -23,7 +23,7 @@ pub struct EffectId(pub u64);
 pub enum Operation {
     Constant(Word),
     Input(InputId),
-    // The value of its source, with a range that a guard showed.
+    // The value of its source, with a range that a guard showed, or as a value of another type.
     Refine(NodeId),
     Effect(EffectId),
     Slice {

@@ -1,14 +1,14 @@
 -- What a node means: its value, where each input and each effect has one. Document 01's 'Typing table' paragraph.
 use mathlib.Core.List.{List, [], _∷_, _++_}
 use mathlib.Core.Option.{Option, none, some}
-use Prim.Native.Nat.{ℕ, zero, suc, _+_, _*_, _/_, _^_}
+use Prim.Native.Nat.{ℕ, zero, suc, _^_}
 use lib.Dec.{ltb}
 use lib.IntN.{ℤ, pos}
 use lib.ListN.{getD}
 use Rattle.word.specs.Value.{signed, only}
 use Rattle.range.specs.declared.ScalarType.{ScalarType}
 use Rattle.range.specs.declared.ScalarType.the-variants as ty
-use Rattle.evaluate.specs.Evaluate.{reduced, evaluateUnary, evaluateBinary}
+use Rattle.evaluate.specs.Evaluate.{reduced, evaluateUnary, evaluateBinary, bitsFrom, concatValue}
 use Rattle.evaluate.specs.declared.Unary.{Unary}
 use Rattle.evaluate.specs.declared.Binary.{Binary}
 use Rattle.graph.specs.Node as node
@@ -56,11 +56,11 @@ binaryMeans t o a b = andThen a (λ x. andThen b (λ y. andThen (evaluateBinary 
 
 -- Slice keeps the bits from its offset up
 abbrev pub sliceMeans : ScalarType → ℕ → Option ℕ → Option ℕ
-sliceMeans t o a = andThen a (λ v. valued t (v / 2 ^ o))
+sliceMeans t o a = andThen a (λ v. valued t (bitsFrom o v))
 
 -- Concat is high × 2 ^ low width + low
 abbrev pub concatMeans : ScalarType → ℕ → Option ℕ → Option ℕ → Option ℕ
-concatMeans t v a b = andThen a (λ x. andThen b (λ y. valued t (x * 2 ^ v + y)))
+concatMeans t v a b = andThen a (λ x. andThen b (λ y. valued t (concatValue v x y)))
 
 -- an operation in a node of type t, its operands' values being given
 abbrev pub operationMeans : Env → ScalarType → Op → (ℕ → Option ℕ) → Option ℕ

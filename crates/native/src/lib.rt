@@ -40,7 +40,7 @@ pub enum Retained {
 }
 
 impl Answer {
-    // The answer as one number: an id is itself; None and the refusals count down from the largest.
+    // The answer as one number: an id is itself, Done 2^63; None and the refusals count down from the largest.
     pub fn number(self) -> u64
         ensures { λ r. ⌜ r ≡ answerNumber (answerOf self) ⌝ }
     {

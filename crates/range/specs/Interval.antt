@@ -80,7 +80,7 @@ insideType ty.Bool a = insideBits 1 a
 insideType (ty.Bits w) a = insideBits w a
 insideType ty.Integer a = true
 
--- a as the range of a result in Bits(w), if it lies inside the type
+-- a as the range of a result in Bits(w), if w is below 128 and a lies inside the type
 unfoldable pub filtered : ℕ → Interval → Option Interval
 filtered w a = only (both (ltb w 128) (both (nonnegative a) (leZ (a .high) (pos (2 ^ w - 1))))) a
 

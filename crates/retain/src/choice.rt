@@ -2,7 +2,7 @@
 ghost use mathlib.Core.Path.{_≡_};
 ghost use Prim.Native.Nat.{_<_};
 ghost use lib.ListN.{length};
-ghost use Rattle.graph.specs.Layout.{REGION, countOf};
+ghost use Rattle.graph.specs.Layout.{REGION};
 ghost use Rattle.retain.specs.Retain.{isKept, hasFirst, hasSecond, operandsAt, areKept, isAllowed, areAllowed, isChoice};
 use graph::layout::count;
 use graph::layout::word_at;

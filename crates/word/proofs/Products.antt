@@ -1,5 +1,5 @@
 -- Products of numbers in two digits, and where a product passes two halves. Assumes nothing.
-use mathlib.Core.Path.{_≡_, sym, _∙_}
+use mathlib.Core.Path.{_≡_, refl, sym, _∙_}
 use Prim.Native.Nat.{ℕ, _+_, _-_, _*_, _/_, _%_, _^_, _<_, _≤_}
 use native.Mathlib.Nat.{add-assoc, add-comm, add-left-comm, mul-assoc, mul-comm, mul-left-comm, mul-add, add-mul, div-add-mod', mul-le-mul, le-refl, le-trans, le-add-right, pos-of-ne-zero, mul-add-mod-self-right}
 use native.Mathlib.Omega.{arith}
@@ -66,6 +66,9 @@ past-raise k n h l f = rw (raise (2 ^ k) n h l) (le-trans (past-both k f (le-ref
 pub low-only : (w : Word) → w .hi ≡ 0 → val w ≡ w .lo
 unfolding val
 low-only w e = omega arith
+
+pub val-low : (n : ℕ) → val (record { lo = n; hi = 0 }) ≡ n
+val-low n = low-only (record { lo = n; hi = 0 }) refl
 
 pub high-set : (w : Word) → (w .hi ≡ 0 → ⊥) → 2 ^ 64 ≤ val w
 unfolding val

@@ -1,4 +1,4 @@
-use Rattle.fold.proofs.Laws.{val-low}
+use Rattle.word.proofs.Products.{val-low}
 use Rattle.bitfield.proofs.equality.whole.Statement.{statement}
 use Rattle.bitfield.proofs.equality.whole.Tie as tie
 

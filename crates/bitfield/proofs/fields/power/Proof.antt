@@ -1,7 +1,7 @@
 use mathlib.Core.Path.{_∙_}
 use native.Mathlib.Nat.{one-mul}
 use borrow.Author.Needs.{needs}
-use Rattle.fold.proofs.Laws.{val-low}
+use Rattle.word.proofs.Products.{val-low}
 use Rattle.bitfield.proofs.fields.power.Statement.{statement}
 use Rattle.bitfield.proofs.fields.power.Tie as tie
 

@@ -1,5 +1,5 @@
 -- `leading_zeros` meets its contract: the zeros above the field are taken off.
-use Rattle.evaluate.proofs.Patterns.{small-word}
+use Rattle.word.proofs.Products.{val-low}
 use lib.Count.{leadingZeros}
 use native.Mathlib.Omega.{arith}
 use Prim.Native.Nat.{_-_}
@@ -26,7 +26,7 @@ returns c = let d = c .before .before .before .before in
     let zeros = c .before .before .before .leading-zeros .result in
     let above = c .before .before .bits-above .result in
     let e : c .before .if1 .count ≡ zeros - above = ⊎-elim (λ w. omega arith) (λ w. omega arith) (c .before .if1 .came) in
-    small-word (c .before .if1 .count) ∙ e
+    val-low (c .before .if1 .count) ∙ e
     ∙ (λ i. (c .before .before .before .leading-zeros .ensures ∙ ap (leadingZeros 128) (d .low-bits .ensures)) i - c .before .before .bits-above .ensures i)
 
 pub leading-zeros-spec : {M : Type 1} → statement M

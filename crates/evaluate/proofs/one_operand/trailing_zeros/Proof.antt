@@ -1,5 +1,5 @@
 -- `trailing_zeros` meets its contract.
-use Rattle.evaluate.proofs.Patterns.{small-word}
+use Rattle.word.proofs.Products.{val-low}
 use lib.Count.{trailingZeros}
 use native.Mathlib.Nat.{le-of-lt, min-eq-left, min-eq-right}
 use Prim.Native.Nat.{ℕ, min}
@@ -20,7 +20,7 @@ returns c = let d = c .before .before .before in
     let w = d .before .args .width in
     let zeros = c .before .before .trailing-zeros .result in
     let e : c .before .if1 .count ≡ min zeros w = ⊎-elim (λ t. t .1 ∙ sym (min-eq-right (le-of-lt (t .0 .taken)))) (λ t. t .1 ∙ sym (min-eq-left (t .0 .left))) (c .before .if1 .came) in
-    small-word (c .before .if1 .count) ∙ e ∙ ap (λ (n : ℕ). min n w) (c .before .before .trailing-zeros .ensures ∙ ap (trailingZeros 128) (d .low-bits .ensures))
+    val-low (c .before .if1 .count) ∙ e ∙ ap (λ (n : ℕ). min n w) (c .before .before .trailing-zeros .ensures ∙ ap (trailingZeros 128) (d .low-bits .ensures))
 
 pub trailing-zeros-spec : {M : Type 1} → statement M
 trailing-zeros-spec = tie.close (tie.spec low-bits-requires trailing-zeros-requires returns)

@@ -1,8 +1,9 @@
 -- `arithmetic_shift` meets its contract: the count is below the width, and so a u32.
-use Rattle.evaluate.proofs.Patterns.{small-word, clamped-twice}
+use Rattle.evaluate.proofs.Patterns.{clamped-twice}
 use Rattle.evaluate.specs.I128.{as-u128}
 use Rattle.evaluate.specs.Evaluate.{toU32}
 use Rattle.word.specs.Value.{val}
+use Rattle.word.proofs.Products.{val-low}
 use lib.Signed.{shrZ}
 use borrow.Author.Tests.{eq-eqb, ne-eqb}
 use native.Mathlib.Omega.{arith}
@@ -41,7 +42,7 @@ as-word-requires c κs = search needs
 returns-2 : tie.Need-returns-2
 returns-2 c = let g = c .before .before .before .before .before .before .args in
     let e : c .before .before .before .to-u32 .result ≡ min (val (g .b)) (g .width - 1) =
-    c .before .before .before .to-u32 .ensures ∙ ap toU32 (c .before .before .before .before .min .ensures ∙ ap (min (val (g .b))) (small-word (g .width - 1)))
+    c .before .before .before .to-u32 .ensures ∙ ap toU32 (c .before .before .before .before .min .ensures ∙ ap (min (val (g .b))) (val-low (g .width - 1)))
     ∙ clamped-twice (val (g .b)) (g .width - 1) (2 ^ 32 - 1) (omega arith) in
     rw (ne-eqb (g .width) 0 (c .before .before .before .before .before .if1 .left))
     (c .as-word .ensures ∙ ap as-u128 (c .before .unbounded-shr .ensures ∙ (λ i. shrZ (c .before .before .extended .ensures i) (2 ^ e i))))

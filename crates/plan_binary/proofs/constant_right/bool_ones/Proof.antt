@@ -3,7 +3,7 @@ use borrow.Author.Tests.{not-true, not-false}
 use borrow.Author.Needs.{needs}
 use lib.Dec.{eqb}
 use Rattle.word.specs.Value.{val}
-use Rattle.fold.proofs.Laws.{val-low}
+use Rattle.word.proofs.Products.{val-low}
 use Rattle.plan_binary.proofs.constant_right.bool_ones.Statement.{statement}
 use Rattle.plan_binary.proofs.constant_right.bool_ones.Tie as tie
 

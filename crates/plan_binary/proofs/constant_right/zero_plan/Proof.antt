@@ -1,5 +1,5 @@
 use borrow.Author.Needs.{needs}
-use Rattle.fold.proofs.Laws.{val-low}
+use Rattle.word.proofs.Products.{val-low}
 use Rattle.plan_binary.proofs.constant_right.zero_plan.Statement.{statement}
 use Rattle.plan_binary.proofs.constant_right.zero_plan.Tie as tie
 

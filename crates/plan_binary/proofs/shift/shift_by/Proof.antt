@@ -4,11 +4,11 @@ use mathlib.Core.Path.{_≡_, ap, _∙_}
 use borrow.Author.Tests.{not-true, not-false}
 use borrow.Author.Needs.{needs}
 use Rattle.word.specs.Value.{val}
+use Rattle.word.proofs.Products.{val-low}
 use Rattle.range.specs.Interval.{one}
 use Rattle.graph.specs.Node.{typeAt, rangeAt}
 use Rattle.plan_binary.specs.Binary.{isShiftedOut}
 use Rattle.fold.specs.Shape.{narrowType, fits}
-use Rattle.fold.proofs.Laws.{val-low}
 use Rattle.plan_binary.proofs.shift.shift_by.Statement.{statement}
 use Rattle.plan_binary.proofs.shift.shift_by.Tie as tie
 

@@ -1,4 +1,4 @@
-use Rattle.fold.proofs.Laws.{val-low}
+use Rattle.word.proofs.Products.{val-low}
 use Rattle.plan_binary.proofs.shift.word_of.Statement.{statement}
 use Rattle.plan_binary.proofs.shift.word_of.Tie as tie
 

@@ -2,8 +2,8 @@ use mathlib.Core.Logic.{⊎-elim}
 use borrow.Author.Tests.{eq-eqb, ne-eqb, not-true, not-false}
 use borrow.Author.Needs.{needs}
 use Rattle.word.specs.Value.{val}
+use Rattle.word.proofs.Products.{val-low}
 use Rattle.graph.proofs.Tests.{zero-test}
-use Rattle.fold.proofs.Laws.{val-low}
 use Rattle.plan_slice.proofs.slice.bounded_plan.Statement.{statement}
 use Rattle.plan_slice.proofs.slice.bounded_plan.Tie as tie
 

@@ -5,8 +5,8 @@ use borrow.Author.Tests.{lt-ltb, le-ltb}
 use borrow.Author.Needs.{needs}
 use lib.Bits.{bitOr}
 use Rattle.word.specs.Value.{val}
+use Rattle.word.proofs.Products.{val-low}
 use Rattle.plan_slice.specs.Slice.{raised}
-use Rattle.fold.proofs.Laws.{val-low}
 use Rattle.plan_slice.proofs.slice.joined.Statement.{statement}
 use Rattle.plan_slice.proofs.slice.joined.Tie as tie
 

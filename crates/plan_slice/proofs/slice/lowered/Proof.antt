@@ -2,7 +2,7 @@ use mathlib.Core.Path.{_∙_}
 use native.Mathlib.Nat.{mod-eq-of-lt}
 use borrow.Author.Tests.{lt-ltb, le-ltb}
 use borrow.Author.Needs.{needs}
-use Rattle.fold.proofs.Laws.{val-low}
+use Rattle.word.proofs.Products.{val-low}
 use Rattle.plan_slice.proofs.slice.lowered.Statement.{statement}
 use Rattle.plan_slice.proofs.slice.lowered.Tie as tie
 

@@ -1,7 +1,7 @@
 use mathlib.Core.Logic.{⊎-elim}
 use borrow.Author.Tests.{eq-eqb, ne-eqb, lt-leb, le-leb}
 use borrow.Author.Needs.{needs}
-use Rattle.fold.proofs.Laws.{val-low}
+use Rattle.word.proofs.Products.{val-low}
 use Rattle.plan_slice.proofs.slice.slice_part.Statement.{statement}
 use Rattle.plan_slice.proofs.slice.slice_part.Tie as tie
 
