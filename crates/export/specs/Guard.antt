@@ -1,12 +1,12 @@
 -- The exported calls of guards: truth values by number, a guard as five words.
 use mathlib.Core.Bool.{Bool, true, false, cond}
 use mathlib.Core.List.{List, [], _∷_}
-use mathlib.Core.Option.{Option, some}
+use mathlib.Core.Option.{Option, none, some}
 use Prim.Native.Nat.{ℕ}
 use lib.Dec.{eqb}
 use lib.ListN.{length}
 use Rattle.word.specs.Value.{only}
-use Rattle.evaluate.specs.Evaluate.{fromBool}
+use Rattle.evaluate.specs.Evaluate.{fromBool, mapped}
 use Rattle.evaluate.specs.Operator.{binaryCode}
 use Rattle.graph.specs.WellFormed.{isGraph}
 use Rattle.fold.specs.Shape.{given}
@@ -46,11 +46,12 @@ abbrev pub matchNumber : Match → ℕ
 matchNumber (guard.is b) = fromBool b
 matchNumber (guard.refused k) = answerNumber (refused k)
 
+-- a guard by its numbers, for values alone: its ids are not looked at. None where a number names nothing
+abbrev pub guardByNumbers : ℕ → ℕ → ℕ → Option Guard
+guardByNumbers o e h =
+    given (binaryByCode o)
+    (λ op. given (truthByNumber e) (λ x. mapped (λ y. record { op = op; left = 0; right = 0; expected = x; host64 = y }) (truthByNumber h)) none) none
+
 -- matches, its operator by code; a number that names nothing is refused 4
 unfoldable pub matchesExport : ℕ → ℕ → ℕ → ℕ → ℕ → ℕ
-matchesExport o e h a b =
-    given (binaryByCode o)
-    (λ op. given (truthByNumber e)
-    (λ x. given (truthByNumber h)
-    (λ y. matchNumber (matchesCall (record { op = op; left = 0; right = 0; expected = x; host64 = y }) a b)) (answerNumber (refused 4))) (answerNumber (refused 4)))
-    (answerNumber (refused 4))
+matchesExport o e h a b = given (guardByNumbers o e h) (λ q. matchNumber (matchesCall q a b)) (answerNumber (refused 4))

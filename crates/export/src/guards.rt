@@ -6,10 +6,10 @@ ghost use Rattle.evaluate.specs.Evaluate.{fromBool};
 ghost use Rattle.graph.specs.Node.{pair};
 ghost use Rattle.graph.specs.WellFormed.{isGraph};
 ghost use Rattle.fold.specs.Range.{truthOf};
-ghost use Rattle.guard.specs.Guard.{oneGuardOf, matchOf};
+ghost use Rattle.guard.specs.Guard.{oneGuardOf, guardOf, matchOf};
 ghost use Rattle.native.specs.Guard.{readingOf};
 ghost use Rattle.export.specs.Export.{exported, asked};
-ghost use Rattle.export.specs.Guard.{truthByNumber, assumeExport, guardWords, guardWritten, guardExport, matchNumber, matchesExport};
+ghost use Rattle.export.specs.Guard.{truthByNumber, assumeExport, guardWords, guardWritten, guardExport, matchNumber, guardByNumbers, matchesExport};
 use crate::MaybeBinary;
 use crate::operate::binary_by_code;
 use evaluate::Refusal;
@@ -18,6 +18,7 @@ use graph::NodeId;
 use graph::well_formed::is_graph;
 use guard::Guard;
 use guard::Matched;
+use guard::MaybeGuard;
 use native::Answer;
 use native::Guarded;
 use native::guards;
@@ -121,6 +122,31 @@ fn match_number(matched: Matched) -> u64
     }
 }
 
+// A guard by its numbers, for values alone: its ids are not looked at.
+fn guard_by_numbers(operator: u64, expected: u64, host64: u64) -> MaybeGuard
+    ensures { λ r. ⌜ guardOf r ≡ guardByNumbers operator expected host64 ⌝ }
+{
+    let named = binary_by_code(operator);
+    let MaybeBinary::Some(op) = named else {
+        return MaybeGuard::None;
+    };
+    let truth = truth_by_number(expected);
+    let MaybeBool::Some(wanted) = truth else {
+        return MaybeGuard::None;
+    };
+    let words = truth_by_number(host64);
+    let MaybeBool::Some(host) = words else {
+        return MaybeGuard::None;
+    };
+    MaybeGuard::Some(Guard {
+        operation: op,
+        left: NodeId(0),
+        right: NodeId(0),
+        expected: wanted,
+        host64: host,
+    })
+}
+
 // Do two values match a guard? 1 or 0, or refused 4 where a number names nothing or the operator is none that it takes.
 #[no_mangle]
 pub extern "C" fn scalars_matches(
@@ -134,24 +160,9 @@ pub extern "C" fn scalars_matches(
 ) -> u64
     ensures { λ r. ⌜ r ≡ matchesExport operator expected host64 (pair «left_low» «left_high») (pair «right_low» «right_high») ⌝ }
 {
-    let named = binary_by_code(operator);
-    let MaybeBinary::Some(op) = named else {
+    let named = guard_by_numbers(operator, expected, host64);
+    let MaybeGuard::Some(guard) = named else {
         return Answer::Refused(Refusal::Typing).number();
-    };
-    let truth = truth_by_number(expected);
-    let MaybeBool::Some(wanted) = truth else {
-        return Answer::Refused(Refusal::Typing).number();
-    };
-    let words = truth_by_number(host64);
-    let MaybeBool::Some(host) = words else {
-        return Answer::Refused(Refusal::Typing).number();
-    };
-    let guard = Guard {
-        operation: op,
-        left: NodeId(0),
-        right: NodeId(0),
-        expected: wanted,
-        host64: host,
     };
     let left = Word {
         lo: left_low,

@@ -12,14 +12,8 @@ use crate::original::apply;
 use crate::words::{LIMIT, REGION, encode, graph_of, readable};
 use ScalarType::{Bool, Integer};
 
-const COMPARED: [Binary; 6] = [
-    Binary::Equal,
-    Binary::NotEqual,
-    Binary::LessSigned,
-    Binary::LessUnsigned,
-    Binary::LessEqualSigned,
-    Binary::LessEqualUnsigned,
-];
+// Where the comparisons stand among the operators.
+const COMPARED: std::ops::Range<usize> = 9..15;
 
 impl Source {
     // A node below this one for which it holds, if one is found soon, or any.
@@ -78,7 +72,7 @@ impl Source {
             0 => left,
             _ => self.below_node(scalars, |scalar| scalar.ty == ty),
         };
-        Operation::Binary(self.random.pick(&COMPARED), left, right)
+        Operation::Binary(self.random.pick(&operators::BINARY[COMPARED]), left, right)
     }
 
     // A node whose type is mostly the one that most nodes have, or Bool for a condition.
@@ -143,7 +137,7 @@ impl Source {
         let by = 1 + self.random.below(3) as i128;
         let limit = top - 1 - self.random.below(3) as i128;
         let op = self.random.pick(&[Binary::Add, Binary::Sub]);
-        let compared = Operation::Binary(self.random.pick(&COMPARED), 3, 1);
+        let compared = Operation::Binary(self.random.pick(&operators::BINARY[COMPARED]), 3, 1);
         vec![
             node(ty, (by, by), Operation::Constant(by as u128)),
             node(ty, (limit, limit), Operation::Constant(limit as u128)),
@@ -165,7 +159,7 @@ impl Source {
         // The way back from a low sum is mostly down, and from a high one up.
         let is_sum = is_low ^ self.random.once_in(3);
         let op = if is_sum { Binary::Add } else { Binary::Sub };
-        let compared = Operation::Binary(self.random.pick(&COMPARED), 2, 3);
+        let compared = Operation::Binary(self.random.pick(&operators::BINARY[COMPARED]), 2, 3);
         vec![
             node(Integer, (by, by), Operation::Constant(by as u128)),
             node(Integer, (i128::MIN, i128::MAX), Operation::Input(0)),

@@ -82,22 +82,7 @@ impl Work {
                 left: id as u64,
                 right: id as u64 + 1,
             },
-            Work::Slice(id) => Call::Slice {
-                id: id as u64,
-                offset: 4,
-                width: 8,
-            },
-            Work::Concat(id) => Call::Concat {
-                high: id as u64,
-                low: id as u64 + 1,
-                low_width: 16,
-                width: 32,
-            },
-            Work::UnsignedRange(id) => Call::UnsignedRange {
-                id: id as u64,
-                low: 3,
-                high: 200,
-            },
+            Work::Slice(id) | Work::Concat(id) | Work::UnsignedRange(id) => self.field(id as u64),
             Work::Limit => Call::Constant {
                 ty: bits,
                 value: 200,
@@ -111,6 +96,28 @@ impl Work {
             Work::Guard(condition) => Call::AssumeGuard {
                 condition: condition as u64,
                 expected: 1,
+            },
+        }
+    }
+
+    // A slice, a concat or a range test, by what it is of.
+    fn field(self, id: u64) -> Call {
+        match self {
+            Work::Slice(_) => Call::Slice {
+                id,
+                offset: 4,
+                width: 8,
+            },
+            Work::Concat(_) => Call::Concat {
+                high: id,
+                low: id + 1,
+                low_width: 16,
+                width: 32,
+            },
+            _ => Call::UnsignedRange {
+                id,
+                low: 3,
+                high: 200,
             },
         }
     }
