@@ -19,9 +19,9 @@ ROOT = pathlib.Path(__file__).resolve().parents[2]
 # what is wrong; crate; file of specs/; old text; new text
 WRONG = [
     ("literal and keep not apart in the masked comparison", "bitfield", "Bitfield",
-     "(both (eqb (bitAnd v (c .value)) 0) (leb v (mask w)))", "(leb v (mask w))"),
+     "(eqb (bitAnd v (c .value)) 0 && leb v (mask w))", "(leb v (mask w))"),
     ("the base of a masked comparison not compared", "bitfield", "Bitfield",
-     "(both (eqb (c .base) base) (both", "(both (one (eqb (c .base) base) true) (both"),
+     "(eqb (c .base) base && (", "((eqb (c .base) base || true) && ("),
     ("bits of `high` taken above the concat's width", "bitfield", "Bitfield",
      "fieldFrom g high low v 0 w noBits", "fieldFrom g high low v 0 128 noBits"),
     ("a bit inverted by an Xor passed on as it is", "bitfield", "Bitfield",
@@ -35,7 +35,7 @@ WRONG = [
     ("a shift of a shift by the wrong sum", "plan_binary", "Binary",
      "(plan.constantBinary ty.Integer (c .value + count) (ty.Bits w) o (c .base))", "(plan.constantBinary ty.Integer count (ty.Bits w) o (c .base))"),
     ("Sub of Sub by the difference of the constants", "plan_binary", "Binary",
-     "(lessMore t (c .base) (evaluateBinary bi.Add t (c .value) b))", "(lessMore t (c .base) (evaluateBinary bi.Sub t (c .value) b))"),
+     "(subOfSub t (c .base) (binaryValue bi.Add t (c .value) b))", "(subOfSub t (c .base) (binaryValue bi.Sub t (c .value) b))"),
     ("Sub of a node and itself is the node", "fold", "Operator",
      "keptTwice = bi.And ∷", "keptTwice = bi.Sub ∷ bi.And ∷"),
     ("comparison by ranges with ≤ for <", "fold", "Range",
@@ -46,16 +46,16 @@ WRONG = [
      "modularOps = bi.Add ∷", "modularOps = bi.DivideUnsigned ∷ bi.Add ∷"),
     ("operands of Sub change places", "fold", "Operator",
      "commutative = bi.Add ∷", "commutative = bi.Sub ∷ bi.Add ∷"),
-    ("a sign extension dropped at 2^(w−1)", "plan", "Single",
-     "(fits (w - 1) r)", "(fits w r)"),
-    ("an identity to Integer of a negative range", "plan", "Single",
+    ("a sign extension dropped at 2^(w−1)", "plan", "OneOperand",
+     "fits (w - 1) r", "fits w r"),
+    ("an identity to Integer of a negative range", "plan", "OneOperand",
      "cond (notNegative r) (plan.add ty.Integer r (node.refine v)) plan.stop", "plan.add ty.Integer r (node.refine v)"),
-    ("a narrower reduction passed over", "plan", "Single",
+    ("a narrower reduction passed over", "plan", "OneOperand",
      "isWide (ty.Bits v) w = leb w v", "isWide (ty.Bits v) w = true"),
     ("a slice of the concat's high part not moved down", "plan_slice", "Slice",
      "(plan.slice high (o - v) w)", "(plan.slice high o w)"),
     ("two slices joined that are not side by side", "plan_slice", "Slice",
-     "(eqb (a .offset) (b .offset + v))", "(leb (b .offset + v) (a .offset))"),
+     "eqb (a .offset) (b .offset + v)", "leb (b .offset + v) (a .offset)"),
     ("a product's range without one corner", "range", "Interval",
      "(fitted (a .low *ℤ b .high)) (fitted (a .high *ℤ b .low))", "(fitted (a .low *ℤ b .high)) (fitted (a .low *ℤ b .high))"),
     ("a remainder's range without 0", "range", "Interval",
@@ -67,11 +67,25 @@ WRONG = [
     ("an answer that is not resolved, and may be of another node", "graph", "Insert",
      "foundOr g (some n) m = made (id (resolve g n)) g", "foundOr g (some n) m = made (id (n + 1)) g"),
     ("an operand that is not renumbered by retain", "retain", "Retain",
-     "hasSecond code = one (eqb code 5)", "hasSecond code = both (eqb code 5)"),
+     "hasSecond code = eqb code CONCAT || ", "hasSecond code = eqb code CONCAT && "),
     ("a retained line that keeps its old id", "meaning", "Book",
      "(record { id = renumbered keep (l .id); val = l .val }", "(record { id = l .id; val = l .val }"),
     ("a declaration whose condition is not noted", "meaning", "Book",
      "(record { id = n; val = v } ∷ []); conditions = cs ++ b .conditions", "(record { id = n; val = v } ∷ []); conditions = b .conditions"),
+    ("an effect whose type is not noted", "meaning", "Book",
+     "requestConditions look (asks.effect i t) = effectIs i t ∷ []", "requestConditions look (asks.effect i t) = []"),
+    ("a second operand's id that is not asked", "native", "Request",
+     "ids (binary t o l r) = l ∷ r ∷ []", "ids (binary t o l r) = l ∷ []"),
+    ("a parameter's width that is not asked", "native", "Request",
+     "widths (unary t o v) = typeWidth t ∷ unaryWidth o ∷ []", "widths (unary t o v) = typeWidth t ∷ []"),
+    ("a guard on a condition that is no Bool", "native", "Request",
+     "typed g (guard n e) = sameType (typeAt g n) ty.Bool", "typed g (guard n e) = true"),
+    ("codes that name nothing, taken for typed", "native", "Request",
+     "typed g (unnamed ws is) = false", "typed g (unnamed ws is) = true"),
+    ("a Bool constant of 2", "native", "Request",
+     "isBoolValue ty.Bool v = ltb v 2", "isBoolValue ty.Bool v = ltb v 3"),
+    ("an input's range outside its type", "native", "Request",
+     "leZ (a .low) (a .high) && insideType t a", "leZ (a .low) (a .high) && insideType ty.Integer a"),
     ("a guard whose condition is not noted", "meaning", "Book",
      "record { lines = b .lines; conditions = cs ++ b .conditions }", "record { lines = b .lines; conditions = b .conditions }"),
     ("a dropped node that maps to 0", "retain", "Retain",
@@ -83,26 +97,26 @@ WRONG = [
     ("Integer read unsigned where a range is compared", "meaning", "Value",
      "integerOf ty.Integer v = signed 128 v", "integerOf ty.Integer v = pos v"),
     ("unsigned orders by ranges that may be negative", "assume", "Limits",
-     "(both (nonnegative a) (nonnegative b))", "(one (nonnegative a) (nonnegative b))"),
+     "|| unsignedToo a b", "|| unsignedToo a a"),
     ("not less: one more than the least", "assume", "Limits",
      "notLessLimits a b = pair (limits (some (b .low)) none)", "notLessLimits a b = pair (limits (oneMore (b .low)) none)"),
     ("at most: one less than the largest", "assume", "Limits",
      "lessEqualLimits a b = pair (limits none (some (b .high)))", "lessEqualLimits a b = pair (limits none (oneLess (b .high)))"),
     ("apart from a range of more than one value", "assume", "Limits",
-     "    cond (eqZ (b .low) (b .high))\n", "    cond (one (eqZ (b .low) (b .high)) (eqZ (a .low) (b .low)))\n"),
+     "    cond (eqZ (b .low) (b .high))\n", "    cond (eqZ (b .low) (b .high) || eqZ (a .low) (b .low))\n"),
     ("apart from a point: narrowed at the wrong end", "assume", "Limits",
      "(provided (eqZ (a .high) (b .high)) (oneLess (a .high)))", "(provided (eqZ (a .low) (b .high)) (oneLess (a .high)))"),
     ("NotEqual taken for Equal", "assume", "Limits",
      "(cond (sameBinary o bi.NotEqual) (cond e (apartLimits a b) (equalLimits a b))", "(cond (sameBinary o bi.NotEqual) (cond e (equalLimits a b) (apartLimits a b))"),
     ("a meet that is empty", "assume", "Limits",
-     "(both (leZ (met .low) (met .high)) (not (sameType t ty.Bool)))", "(not (sameType t ty.Bool))"),
+     "(leZ (met .low) (met .high) && not (sameType t ty.Bool))", "(not (sameType t ty.Bool))"),
     ("the larger of two upper ends", "assume", "Limits",
      "high = minZ (a .high) (orEnd (l .upper) (a .high))", "high = maxZ (a .high) (orEnd (l .upper) (a .high))"),
     ("the base of a sum with the offset's sign turned", "assume", "Refine",
      "undoneBits w o c z = cond (sameBinary o bi.Sub)", "undoneBits w o c z = cond (sameBinary o bi.Add)"),
     ("narrowing through a sum whose shifted interval wraps", "assume", "Refine",
      "ordered a b = only (leb a b) (record", "ordered a b = only (leb 0 b) (record"),
-    ("the base of a product refined", "assume", "Refine",
+    ("the base of a product refined", "fold", "Operator",
      "sums = bi.Add ∷ bi.Sub ∷ []", "sums = bi.Add ∷ bi.Sub ∷ bi.Mul ∷ []"),
     ("a base of another type refined", "assume", "Refine",
      "provided (sameType (typeAt g (c .base)) t) (mapped", "provided (leb 0 (c .base)) (mapped"),
@@ -115,14 +129,24 @@ WRONG = [
 ]
 
 
-def without_code(source, target, laws):
-    """src/ keeps its types alone, proofs/ the laws that are needed."""
-    text = (source / "src" / "lib.rt").read_text()
+def types_of(text):
+    """The types of a source file, and the `use` lines that they need."""
     found = re.findall(r"(?:^//[^\n]*\n)*^pub (?:enum|struct) \w+\s*(?:\([^)]*\);|\{.*?^\})", text, re.M | re.S)
     uses = re.findall(r"^use (?!crate)\w+::[A-Z]\w*;\n", text, re.M)
     named = [u for u in uses if re.search(r"\b%s\b" % re.search(r"(\w+);", u).group(1), "\n".join(found))]
+    return "".join(named) + "\n" + "\n\n".join(found) + "\n" if found else ""
+
+
+def without_code(source, target, laws):
+    """src/ keeps its types alone, proofs/ the laws that are needed."""
     (target / "src").mkdir(parents=True)
-    (target / "src" / "lib.rt").write_text("// Types alone.\n" + "".join(named) + "\n" + "\n\n".join(found) + "\n")
+    modules = ""
+    for file in sorted((source / "src").glob("*.rt")):
+        types = types_of(file.read_text())
+        if types and file.name != "lib.rt":
+            (target / "src" / file.name).write_text("// Types alone.\n" + types)
+            modules += f"pub mod {file.stem};\n"
+    (target / "src" / "lib.rt").write_text("// Types alone.\n" + modules + "\n" + types_of((source / "src" / "lib.rt").read_text()))
     if (source / "specs").exists():
         shutil.copytree(source / "specs", target / "specs")
     if laws:
@@ -147,7 +171,7 @@ def needed_laws():
 
 def copy(room):
     lines, laws = [], needed_laws()
-    needed = ["bits", "word", "range", "evaluate", "graph", "fold", "bitfield", "plan", "plan_slice", "plan_binary", "guard", "assume", "build", "retain", "native", "meaning"]
+    needed = ["bits", "word", "answer", "range", "evaluate", "graph", "fold", "bitfield", "plan", "plan_slice", "plan_binary", "guard", "assume", "build", "retain", "native", "meaning"]
     for line in (ROOT / "crates.txt").read_text().splitlines():
         name = line.partition(":")[0]
         if name in needed:

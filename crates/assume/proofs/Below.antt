@@ -7,9 +7,9 @@ use Prim.Native.Nat.{ℕ, zero, suc, _≤_, _<_}
 use native.Mathlib.Nat.{le-refl}
 use native.Mathlib.Omega.{arith}
 use lib.Dec.{eqb}
+use Rattle.word.specs.Option.{mapped, given}
 use Rattle.range.specs.Interval.{Interval}
 use Rattle.range.proofs.Answers.{none-some, some-is, provided-is}
-use Rattle.evaluate.specs.Evaluate.{mapped}
 use Rattle.evaluate.specs.Operator.{unaryCode}
 use Rattle.evaluate.specs.declared.Unary.the-variants as un
 use Rattle.evaluate.specs.declared.Binary.{Binary}
@@ -19,7 +19,7 @@ use Rattle.graph.specs.Node.{Op, typeAt, operationAt}
 use Rattle.graph.specs.Insert.{start, literal}
 use Rattle.graph.proofs.Grown.{Graph, start-le}
 use Rattle.fold.specs.Operator.{comparisons}
-use Rattle.fold.specs.Shape.{given, sameType, isAny, Chain, chained, chainOf, chainAt, refinedOf, refinedAt, down, origin}
+use Rattle.fold.specs.Shape.{sameType, isAny, ByConstant, withConstant, byConstantOf, byConstantAt, refinedOf, refinedAt, down, origin}
 use Rattle.guard.specs.Condition.{negatedOf, negatedAt, behind, behindNots, Comparison, comparedBy, comparisonAt}
 use Rattle.assume.specs.Refine.{undone, Next, next, baseBy, baseOf}
 
@@ -51,15 +51,15 @@ module _ {g : List ℕ} (f : Graph g) where
       by (some p) e rest = let d = refined-below n p l e in let r = rest p (omega arith) in omega arith
 
   -- the left operand of an operation by a constant
-  chain-below : (n : ℕ) (c : Chain) → n < countOf g → chainAt g n ≡ some c → c .base < n
-  unfolding chainAt
-  chain-below n c l e = by (operationAt g n) (start-le f n l) e
+  by-constant-below : (n : ℕ) (c : ByConstant) → n < countOf g → byConstantAt g n ≡ some c → c .base < n
+  unfolding byConstantAt
+  by-constant-below n c l e = by (operationAt g n) (start-le f n l) e
     where
-      on : (o : Binary) (i : ℕ) (v : Option ℕ) → i < n → chained o i v ≡ some c → c .base < n
+      on : (o : Binary) (i : ℕ) (v : Option ℕ) → i < n → withConstant o i v ≡ some c → c .base < n
       on o i none b q = absurd (none-some q)
-      on o i (some v) b q = let d : i ≡ c .base = ap (λ (x : Chain). x .base) (some-is q) in omega arith
+      on o i (some v) b q = let d : i ≡ c .base = ap (λ (x : ByConstant). x .base) (some-is q) in omega arith
 
-      by : (o : Op) → start o ≤ n → chainOf g o ≡ some c → c .base < n
+      by : (o : Op) → start o ≤ n → byConstantOf g o ≡ some c → c .base < n
       by (node.constant k) b q = absurd (none-some q)
       by (node.input i) b q = absurd (none-some q)
       by (node.refine i) b q = absurd (none-some q)
@@ -72,19 +72,19 @@ module _ {g : List ℕ} (f : Graph g) where
   -- the node that follows
   pub base-below : (n : ℕ) (a : Interval) (x : Next) → n < countOf g → baseOf g n a ≡ some x → x .node < n
   unfolding baseOf origin
-  base-below n a x l e = by (chainAt g (origin g n)) refl e
+  base-below n a x l e = by (byConstantAt g (origin g n)) refl e
     where
       le : origin g n ≤ n
       le = down-le LIMIT n l
 
-      on : (c : Chain) (y : Option Interval) → c .base < n → mapped (next (c .base)) y ≡ some x → x .node < n
+      on : (c : ByConstant) (y : Option Interval) → c .base < n → mapped (next (c .base)) y ≡ some x → x .node < n
       on c none b q = absurd (none-some q)
       on c (some y) b q = let d : c .base ≡ x .node = ap (λ (z : Next). z .node) (some-is q) in omega arith
 
-      by : (y : Option Chain) → chainAt g (origin g n) ≡ y → given y (baseBy g (typeAt g n) a) none ≡ some x → x .node < n
+      by : (y : Option ByConstant) → byConstantAt g (origin g n) ≡ y → given y (baseBy g (typeAt g n) a) none ≡ some x → x .node < n
       by none p q = absurd (none-some q)
       by (some c) p q =
-          let b = chain-below (origin g n) c (omega (arith, le)) p in
+          let b = by-constant-below (origin g n) c (omega (arith, le)) p in
           on c (undone (typeAt g n) (c .op) (c .value) a) (omega (arith, le)) (provided-is (sameType (typeAt g (c .base)) (typeAt g n)) _ q .1)
 
   -- ---- to a comparison

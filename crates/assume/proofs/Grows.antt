@@ -9,6 +9,7 @@ use native.Mathlib.Omega.{arith}
 use borrow.Author.Tests.{ltb-true}
 use lib.Dec.{ltb, lit<, lit≤}
 use lib.Signed.{mag, leZ, _≤ℤ_}
+use Rattle.word.specs.Option.{given}
 use Rattle.range.specs.Interval.{Interval, sameInterval}
 use Rattle.range.specs.declared.ScalarType.{ScalarType}
 use Rattle.range.specs.declared.ScalarType.the-variants as ty
@@ -29,12 +30,12 @@ use Rattle.graph.proofs.Grown.{Graph, graph-facts, width-of, resolve-within, re
 use Rattle.graph.proofs.Interned.{lowest-some, inserted-found, inserted-new}
 use Rattle.graph.proofs.Nodes.{length-words, appended-made, appended-full, appended-count, appended-new, appended-other}
 use Rattle.graph.proofs.Words.{Words, appended-words, aliased-words, node-words, ends-of}
-use Rattle.fold.specs.Shape.{given, sameType}
+use Rattle.fold.specs.Shape.{sameType}
 use Rattle.assume.specs.Limits.{Limits, orEnd, meet, narrows}
-use Rattle.assume.specs.Refine.{Next, Outcome, unchanged, narrowed, full, Step, step, baseOf, aliasTo, narrow, refineStep, refined}
+use Rattle.assume.specs.Refine.{Next, Outcome, unchanged, narrowed, full, Step, step, baseOf, aliasTo, narrow, refineStep}
 use Rattle.assume.specs.Assume.{assumedGuard}
 use Rattle.assume.proofs.Below.{base-below, guard-below}
-use Rattle.assume.proofs.Same.{refined-keeps, assumed-keeps}
+use Rattle.assume.proofs.Same.{assumed-keeps}
 
 -- ---- the range that a node is narrowed to
 
@@ -218,13 +219,9 @@ module _ (g : List ℕ) (e : isGraph g ≡ true) (w : Words g) where
       → x .node < countOf (refineStep h (resolve h n) l .words)
   on h n l p q = step-next h (p .graph) (p .words) (resolve h n) (resolve-within (graph-facts h (p .graph)) n q .1) l
 
-  -- the steps from one node
-  pub refined-grows : (so : Outcome) (n : ℕ) (l : Limits) → n < countOf g → Grows g (refined so g n l .words)
-  refined-grows so n l here = refined-keeps (Grows g) (λ h m. m < countOf h) keep on so g n l (grows-self g e w) here
-
   module _ (n : ℕ) (here : n < countOf g) (expected : Bool) where
     -- a guard
-    pub assumed-grows : Grows g (assumedGuard g n expected .words)
+    assumed-grows : Grows g (assumedGuard g n expected .words)
     assumed-grows =
         assumed-keeps (Grows g) (λ h m. m < countOf h) keep on g n expected (grows-self g e w)
         (λ c q h p.
@@ -237,10 +234,6 @@ module _ (g : List ℕ) (e : isGraph g ≡ true) (w : Words g) where
     -- the region is still a graph
     pub assumed-graph : isGraph (assumedGuard g n expected .words) ≡ true
     assumed-graph = assumed-grows .graph
-
-    -- its words are below 2 ^ 64
-    pub assumed-words : Words (assumedGuard g n expected .words)
-    assumed-words = assumed-grows .words
 
     -- no alias is written over
     pub assumed-keeps-aliases : (m : ℕ) → m < countOf g → (aliasAt g m ≡ 0 → ⊥) → aliasAt (assumedGuard g n expected .words) m ≡ aliasAt g m

@@ -4,6 +4,7 @@ use mathlib.Core.Bool.{Bool, true, false, cond}
 use mathlib.Core.List.{List}
 use mathlib.Core.Option.{Option, none, some}
 use Prim.Native.Nat.{ℕ, zero, suc}
+use Rattle.word.specs.Option.{given}
 use Rattle.range.specs.Interval.{Interval}
 use Rattle.graph.specs.Layout.{LIMIT}
 use Rattle.graph.specs.Node as node
@@ -11,7 +12,6 @@ use Rattle.graph.specs.Node.{typeAt, rangeAt}
 use Rattle.graph.specs.Insert as insert
 use Rattle.graph.specs.Insert.{Reply, resolve, inserted}
 use Rattle.graph.proofs.Restored.{Same, inserted-same, aliased-same}
-use Rattle.fold.specs.Shape.{given}
 use Rattle.guard.specs.Condition.{behindNots, Comparison, comparisonAt}
 use Rattle.assume.specs.Limits.{Limits, limitedTo, meet, narrows, comparable, limitsBy}
 use Rattle.assume.specs.Refine.{Next, Outcome, unchanged, narrowed, full, assumed, aliasTo, narrow, step, refineStep, goOn, refineUpTo, refined}
@@ -80,7 +80,7 @@ module _ (P : List ℕ → Type 0) (N : List ℕ → ℕ → Type 0)
 
 module _ {k : ℕ} {g h : List ℕ} (s : Same k g h) where
   -- one step keeps them
-  pub step-same : (n : ℕ) (l : Limits) → Same k g (refineStep h n l .words)
+  step-same : (n : ℕ) (l : Limits) → Same k g (refineStep h n l .words)
   unfolding refineStep
   step-same n l = by (rangeAt h n)
     where
@@ -106,10 +106,6 @@ abbrev Any : List ℕ → ℕ → Type 0
 Any h n = Unit {0}
 
 module _ {k : ℕ} {g : List ℕ} where
-  -- the steps from one node keep them
-  pub refined-same : {h : List ℕ} → Same k g h → (so : Outcome) (n : ℕ) (l : Limits) → Same k g (refined so h n l .words)
-  refined-same {h} s so n l = refined-keeps (Same k g) Any (λ w m j p q. step-same p (resolve w m) j) (λ w m j p q x e. tt) so h n l s tt
-
   -- a guard keeps them
   pub assumed-same : {h : List ℕ} → Same k g h → (n : ℕ) (e : Bool) → Same k g (assumedGuard h n e .words)
   assumed-same {h} s n e =

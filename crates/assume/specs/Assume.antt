@@ -3,11 +3,11 @@ use mathlib.Core.Bool.{Bool, cond}
 use mathlib.Core.List.{List}
 use mathlib.Core.Option.{Option, none, some}
 use Prim.Native.Nat.{ℕ}
+use Rattle.word.specs.Option.{given}
 use Rattle.range.specs.Interval.{Interval}
 use Rattle.evaluate.specs.declared.Binary.{Binary}
 use Rattle.graph.specs.Node.{rangeAt}
 use Rattle.graph.specs.Insert.{resolve}
-use Rattle.fold.specs.Shape.{given}
 use Rattle.guard.specs.Condition.{behindNots, Comparison, comparisonAt}
 use Rattle.assume.specs.Limits.{Limits, Pair, comparable, limitsBy}
 use Rattle.assume.specs.Refine.{Outcome, unchanged, narrowed, full, Assumed, assumed, refined}

@@ -1,15 +1,17 @@
 -- Limits of a value: what a comparison of two ranges gives (assume.rs 104 to 150), and the part of a range between limits.
-use mathlib.Core.Bool.{Bool, cond, not}
-use mathlib.Core.List.{List, [], _∷_}
+use mathlib.Core.Bool.{Bool, cond, not, _&&_, _||_}
 use mathlib.Core.Option.{Option, none, some}
 use lib.IntN.{ℤ, pos, _+ℤ_, _-ℤ_}
 use lib.Signed.{leZ}
-use Rattle.word.specs.Value.{valueOf, fitted, provided, eqZ, minZ, maxZ}
-use Rattle.range.specs.Interval.{Interval, both, one, nonnegative, sameInterval}
+use Rattle.word.specs.Value.{valueOf, fitted, eqZ, minZ, maxZ}
+use Rattle.word.specs.Option.{provided}
+use Rattle.range.specs.Interval.{Interval, sameInterval}
 use Rattle.range.specs.declared.ScalarType.{ScalarType}
 use Rattle.range.specs.declared.ScalarType.the-variants as ty
 use Rattle.evaluate.specs.declared.Binary.{Binary}
 use Rattle.evaluate.specs.declared.Binary.the-variants as bi
+use Rattle.fold.specs.Operator.{strictOrders, unsignedOrders}
+use Rattle.fold.specs.Range.{unsignedToo}
 use Rattle.fold.specs.Shape.{sameType, sameBinary, isAny}
 use Rattle.assume.specs.declared.Limits as declared-limits
 use Rattle.assume.specs.declared.Pair as declared-pair
@@ -48,7 +50,7 @@ meet a l = record { low = maxZ (a .low) (orEnd (l .lower) (a .low)); high = minZ
 
 -- is there something to narrow? Not if the range stays, if nothing is left of it, or on Bool (35 to 37)
 unfoldable pub narrows : ScalarType → Interval → Interval → Bool
-narrows t old met = both (not (sameInterval met old)) (both (leZ (met .low) (met .high)) (not (sameType t ty.Bool)))
+narrows t old met = not (sameInterval met old) && (leZ (met .low) (met .high) && not (sameType t ty.Bool))
 
 -- ---- the limits of both operands
 
@@ -104,22 +106,14 @@ besides a b =
 abbrev pub apartLimits : Interval → Interval → Pair
 apartLimits a b = pair (besides a b) (besides b a)
 
--- less, signed and unsigned
-abbrev pub orders : List Binary
-orders = bi.LessSigned ∷ bi.LessUnsigned ∷ []
-
--- less and at most, unsigned
-abbrev pub unsignedOrders : List Binary
-unsignedOrders = bi.LessUnsigned ∷ bi.LessEqualUnsigned ∷ []
-
 -- do ranges say something of a comparison? Of an unsigned one only where no value is negative (95 to 99)
 abbrev pub comparable : Binary → Interval → Interval → Bool
-comparable o a b = one (not (isAny unsignedOrders o)) (both (nonnegative a) (nonnegative b))
+comparable o a b = not (isAny unsignedOrders o) || unsignedToo a b
 
 -- the limits of two operands whose comparison is as expected; NotEqual is Equal with what is expected turned (100 to 104)
 unfoldable pub limitsBy : Binary → Bool → Interval → Interval → Pair
 limitsBy o e a b =
-    cond (isAny orders o) (cond e (lessLimits a b) (notLessLimits a b))
+    cond (isAny strictOrders o) (cond e (lessLimits a b) (notLessLimits a b))
     (cond (sameBinary o bi.Equal) (cond e (equalLimits a b) (apartLimits a b))
     (cond (sameBinary o bi.NotEqual) (cond e (apartLimits a b) (equalLimits a b))
     (cond e (lessEqualLimits a b) (greaterLimits a b))))

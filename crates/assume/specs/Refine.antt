@@ -1,15 +1,15 @@
 -- Refining a node to limits (assume.rs 26 to 79), on the words of the region.
-use mathlib.Core.Bool.{Bool, cond}
-use mathlib.Core.List.{List, [], _∷_}
+use mathlib.Core.Bool.{Bool, cond, _&&_}
+use mathlib.Core.List.{List}
 use mathlib.Core.Option.{Option, none, some}
 use Prim.Native.Nat.{ℕ, zero, suc, _%_, _^_}
 use lib.Dec.{ltb, leb}
 use lib.IntN.{ℤ, _+ℤ_, _-ℤ_}
-use Rattle.word.specs.Value.{residue, signed, fitted, provided, only}
-use Rattle.range.specs.Interval.{Interval, boundsOf, both, between}
+use Rattle.word.specs.Value.{residue, signed, fitted}
+use Rattle.word.specs.Option.{only, provided, mapped, given}
+use Rattle.range.specs.Interval.{Interval, boundsOf, between}
 use Rattle.range.specs.declared.ScalarType.{ScalarType}
 use Rattle.range.specs.declared.ScalarType.the-variants as ty
-use Rattle.evaluate.specs.Evaluate.{mapped}
 use Rattle.evaluate.specs.U128 as u128
 use Rattle.evaluate.specs.declared.Binary.{Binary}
 use Rattle.evaluate.specs.declared.Binary.the-variants as bi
@@ -19,7 +19,8 @@ use Rattle.graph.specs.Node.{typeAt, rangeAt}
 use Rattle.graph.specs.Insert as insert
 use Rattle.graph.specs.Insert.{Reply, resolve, inserted}
 use Rattle.graph.specs.Alias.{aliased}
-use Rattle.fold.specs.Shape.{given, sameType, sameBinary, isAny, Chain, chainAt, origin}
+use Rattle.fold.specs.Operator.{sums}
+use Rattle.fold.specs.Shape.{sameType, sameBinary, isAny, ByConstant, byConstantAt, origin}
 use Rattle.assume.specs.declared.Outcome as declared-outcome
 use Rattle.assume.specs.declared.Outcome.the-variants as outcomes
 use Rattle.assume.specs.declared.Next as declared-next
@@ -28,10 +29,6 @@ use Rattle.assume.specs.declared.MaybeNext.the-variants as nexts
 use Rattle.assume.specs.Limits.{Limits, limitedTo, meet, narrows}
 
 -- ---- through a sum with a constant
-
--- Add and Sub
-abbrev pub sums : List Binary
-sums = bi.Add ∷ bi.Sub ∷ []
 
 -- the x of Bits(w) with x + c, or x - c, equal to z (assume.rs 52 to 58)
 abbrev pub undoneBits : ℕ → Binary → ℕ → ℤ → ℕ
@@ -49,7 +46,7 @@ undoneInteger o c z = cond (sameBinary o bi.Sub) (fitted (z +ℤ c)) (fitted (z 
 unfoldable pub undone : ScalarType → Binary → ℕ → Interval → Option Interval
 undone ty.Bool o c a = none
 undone (ty.Bits w) o c a =
-    provided (both (ltb w 128) (isAny sums o)) (ordered (undoneBits w o c (a .low)) (undoneBits w o c (a .high)))
+    provided (ltb w 128 && isAny sums o) (ordered (undoneBits w o c (a .low)) (undoneBits w o c (a .high)))
 undone ty.Integer o c a =
     provided (isAny sums o) (between (undoneInteger o (signed 128 c) (a .low)) (undoneInteger o (signed 128 c) (a .high)))
 
@@ -68,12 +65,12 @@ nextOf (nexts.Some x) = some (next (x .node .0) (boundsOf (x .range)))
 nextOf nexts.None = none
 
 -- the base of an operation by a constant, of type t as the node with range a is (44 to 47, 75 to 77)
-abbrev pub baseBy : List ℕ → ScalarType → Interval → Chain → Option Next
+abbrev pub baseBy : List ℕ → ScalarType → Interval → ByConstant → Option Next
 baseBy g t a c = provided (sameType (typeAt g (c .base)) t) (mapped (next (c .base)) (undone t (c .op) (c .value) a))
 
 -- what follows for the base, if node n with range a is, through its Refines, a sum with a constant (40 to 78)
 unfoldable pub baseOf : List ℕ → ℕ → Interval → Option Next
-baseOf g n a = given (chainAt g (origin g n)) (baseBy g (typeAt g n) a) none
+baseOf g n a = given (byConstantAt g (origin g n)) (baseBy g (typeAt g n) a) none
 
 -- ---- one node
 

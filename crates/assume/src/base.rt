@@ -2,19 +2,20 @@
 ghost use mathlib.Core.Path.{_≡_};
 ghost use lib.ListN.{length};
 ghost use Rattle.word.specs.Value.{val, intOf, valueOf};
+ghost use Rattle.word.specs.Option.{mapped};
 ghost use Rattle.range.specs.Interval.{boundsOf, intervalOf};
-ghost use Rattle.evaluate.specs.Evaluate.{mapped};
 ghost use Rattle.graph.specs.Layout.{REGION};
-ghost use Rattle.fold.specs.Shape.{isAny, oneChainOf};
-ghost use Rattle.assume.specs.Refine.{sums, undoneBits, ordered, undoneInteger, undone, next, nextOf, baseBy, baseOf};
+ghost use Rattle.fold.specs.Shape.{oneByConstantOf};
+ghost use Rattle.assume.specs.Refine.{undoneBits, ordered, undoneInteger, undone, next, nextOf, baseBy, baseOf};
 use crate::MaybeNext;
 use crate::Next;
 use evaluate::Binary;
 use evaluate::pattern::low_bits;
-use fold::Chain;
-use fold::MaybeChain;
+use fold::ByConstant;
+use fold::MaybeByConstant;
+use fold::operator::is_sum;
 use fold::operator::same_binary;
-use fold::shape::chain_at;
+use fold::shape::by_constant_at;
 use fold::shape::origin;
 use fold::shape::same_type;
 use graph::NodeId;
@@ -26,18 +27,6 @@ use range::arithmetic::between;
 use word::MaybeSigned;
 use word::Signed;
 use word::Word;
-
-fn is_sum(op: Binary) -> bool
-    ensures { λ r. ⌜ r ≡ isAny sums op ⌝ }
-{
-    if same_binary(op, Binary::Add) {
-        return true;
-    }
-    if same_binary(op, Binary::Sub) {
-        return true;
-    }
-    false
-}
 
 // The x of Bits(width) with x + offset, or x - offset, equal to the value.
 fn undone_bits(width: u16, op: Binary, offset: Word, value: Signed) -> Word
@@ -116,14 +105,14 @@ fn next_at(node: NodeId, range: MaybeRange) -> MaybeNext
 }
 
 // The base of an operation by a constant, if it has the type.
-fn base_by(g: &[u64], ty: ScalarType, range: Range, chain: Chain) -> MaybeNext
+fn base_by(g: &[u64], ty: ScalarType, range: Range, shape: ByConstant) -> MaybeNext
     requires { ⌜ length (now g) ≡ REGION ⌝ }
-    ensures { λ r. ⌜ nextOf r ≡ baseBy (now (g .entry)) ty (boundsOf range) (oneChainOf chain) ⌝ }
+    ensures { λ r. ⌜ nextOf r ≡ baseBy (now (g .entry)) ty (boundsOf range) (oneByConstantOf shape) ⌝ }
 {
-    let base = chain.base;
-    let op = chain.op;
+    let base = shape.base;
+    let op = shape.op;
     if same_type(type_at(g, base), ty) {
-        next_at(base, undone(ty, op, chain.value, range))
+        next_at(base, undone(ty, op, shape.value, range))
     } else {
         MaybeNext::None
     }
@@ -134,9 +123,9 @@ pub fn base_of(g: &[u64], node: NodeId, range: Range) -> MaybeNext
     requires { ⌜ length (now g) ≡ REGION ⌝ }
     ensures { λ r. ⌜ nextOf r ≡ baseOf (now (g .entry)) (node .0) (boundsOf range) ⌝ }
 {
-    let found = chain_at(g, origin(g, node));
+    let found = by_constant_at(g, origin(g, node));
     match found {
-        MaybeChain::Some(chain) => base_by(g, type_at(g, node), range, chain),
-        MaybeChain::None => MaybeNext::None,
+        MaybeByConstant::Some(shape) => base_by(g, type_at(g, node), range, shape),
+        MaybeByConstant::None => MaybeNext::None,
     }
 }

@@ -2,13 +2,16 @@
 ghost use mathlib.Core.Bool.{cond};
 ghost use mathlib.Core.Option.{none};
 ghost use mathlib.Core.Path.{_≡_};
-ghost use Rattle.word.specs.Value.{intOf, valueOf, provided, eqZ};
+ghost use Rattle.word.specs.Value.{intOf, valueOf, eqZ};
+ghost use Rattle.word.specs.Option.{provided};
 ghost use Rattle.range.specs.Interval.{boundsOf};
-ghost use Rattle.fold.specs.Shape.{isAny};
-ghost use Rattle.assume.specs.Limits.{limitsOf, limitedTo, orEnd, meet, narrows, limits, pairOf, oneMore, oneLess, lessLimits, notLessLimits, lessEqualLimits, greaterLimits, equalLimits, besides, apartLimits, orders, unsignedOrders, comparable, limitsBy};
+ghost use Rattle.assume.specs.Limits.{limitsOf, limitedTo, orEnd, meet, narrows, limits, pairOf, oneMore, oneLess, lessLimits, notLessLimits, lessEqualLimits, greaterLimits, equalLimits, besides, apartLimits, comparable, limitsBy};
 use crate::Limits;
 use crate::Pair;
 use evaluate::Binary;
+use fold::compare::unsigned_too;
+use fold::operator::is_strict_order;
+use fold::operator::is_unsigned_order;
 use fold::operator::same_binary;
 use fold::shape::same_type;
 use range::Range;
@@ -147,26 +150,11 @@ fn equal_limits(a: Range, b: Range) -> Pair
     }
 }
 
-// One more than the value, if it is the point's.
-fn more_than(value: Signed, point: Signed) -> MaybeSigned
-    ensures { λ r. ⌜ valueOf r ≡ provided (eqZ (intOf value) (intOf point)) (oneMore (intOf value)) ⌝ }
+// The limit, if two values are equal.
+fn if_equal(a: Signed, b: Signed, limit: MaybeSigned) -> MaybeSigned
+    ensures { λ r. ⌜ valueOf r ≡ provided (eqZ (intOf a) (intOf b)) (valueOf limit) ⌝ }
 {
-    if value.eq(point) {
-        one_more(value)
-    } else {
-        MaybeSigned::None
-    }
-}
-
-// One less than the value, if it is the point's.
-fn less_than(value: Signed, point: Signed) -> MaybeSigned
-    ensures { λ r. ⌜ valueOf r ≡ provided (eqZ (intOf value) (intOf point)) (oneLess (intOf value)) ⌝ }
-{
-    if value.eq(point) {
-        one_less(value)
-    } else {
-        MaybeSigned::None
-    }
+    if a.eq(b) { limit } else { MaybeSigned::None }
 }
 
 // A value of a is not the one value of b: an end of a that is that value goes.
@@ -176,8 +164,8 @@ fn besides(a: Range, b: Range) -> Limits
     let low = b.min;
     if low.eq(b.max) {
         Limits {
-            lower: more_than(a.min, b.min),
-            upper: less_than(a.max, b.max),
+            lower: if_equal(a.min, b.min, one_more(a.min)),
+            upper: if_equal(a.max, b.max, one_less(a.max)),
         }
     } else {
         Limits {
@@ -196,30 +184,6 @@ fn apart_limits(a: Range, b: Range) -> Pair
     }
 }
 
-fn is_order(op: Binary) -> bool
-    ensures { λ r. ⌜ r ≡ isAny orders op ⌝ }
-{
-    if same_binary(op, Binary::LessSigned) {
-        return true;
-    }
-    if same_binary(op, Binary::LessUnsigned) {
-        return true;
-    }
-    false
-}
-
-fn is_unsigned_order(op: Binary) -> bool
-    ensures { λ r. ⌜ r ≡ isAny unsignedOrders op ⌝ }
-{
-    if same_binary(op, Binary::LessUnsigned) {
-        return true;
-    }
-    if same_binary(op, Binary::LessEqualUnsigned) {
-        return true;
-    }
-    false
-}
-
 // Do ranges say something of the comparison? Of an unsigned one only where no value is negative.
 pub fn comparable(op: Binary, a: Range, b: Range) -> bool
     ensures { λ r. ⌜ r ≡ comparable op (boundsOf a) (boundsOf b) ⌝ }
@@ -227,11 +191,7 @@ pub fn comparable(op: Binary, a: Range, b: Range) -> bool
     if !is_unsigned_order(op) {
         return true;
     }
-    if a.is_nonnegative() {
-        b.is_nonnegative()
-    } else {
-        false
-    }
+    unsigned_too(a, b)
 }
 
 fn equality_limits(equal: bool, a: Range, b: Range) -> Pair
@@ -248,7 +208,7 @@ fn equality_limits(equal: bool, a: Range, b: Range) -> Pair
 pub fn limits_by(op: Binary, expected: bool, a: Range, b: Range) -> Pair
     ensures { λ r. ⌜ pairOf r ≡ limitsBy op expected (boundsOf a) (boundsOf b) ⌝ }
 {
-    if is_order(op) {
+    if is_strict_order(op) {
         if expected {
             return less_limits(a, b);
         }

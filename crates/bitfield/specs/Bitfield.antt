@@ -1,12 +1,12 @@
 -- Single bits of nodes, and the two folds of bitfield.rs.
-use mathlib.Core.Bool.{Bool, true, false, cond, not}
+use mathlib.Core.Bool.{Bool, true, false, cond, not, _&&_, _||_}
 use mathlib.Core.List.{List}
 use mathlib.Core.Option.{Option, none, some}
 use Prim.Native.Nat.{ℕ, zero, suc, _+_, _-_, _/_, _%_, _^_}
 use lib.Bits.{bitAnd, bitOr}
 use lib.Dec.{eqb, ltb, leb}
-use Rattle.word.specs.Value.{val, only, provided}
-use Rattle.range.specs.Interval.{both, one}
+use Rattle.word.specs.Value.{val}
+use Rattle.word.specs.Option.{only, provided, given}
 use Rattle.range.specs.declared.ScalarType.{ScalarType}
 use Rattle.range.specs.declared.ScalarType.the-variants as ty
 use Rattle.evaluate.specs.U128 as u128
@@ -17,7 +17,7 @@ use Rattle.evaluate.specs.declared.Binary.the-variants as bi
 use Rattle.graph.specs.Node as node
 use Rattle.graph.specs.Node.{Op, typeAt, rangeAt, operationAt}
 use Rattle.graph.specs.Insert as graph
-use Rattle.fold.specs.Shape.{given, sameType, narrowType, sameBinary, fits, mask, Chain, chainAt, idOf}
+use Rattle.fold.specs.Shape.{sameType, narrowType, sameBinary, fits, mask, ByConstant, byConstantAt, idOf}
 use Rattle.bitfield.specs.declared.Masked as declared-mask
 use Rattle.bitfield.specs.declared.Bit as declared
 use Rattle.bitfield.specs.declared.Bit.the-variants as declared-bit
@@ -89,19 +89,19 @@ bitOf g n i (node.binary o p q) = given (graph.literal g q) (λ c. maskedBit o n
 
 -- bit i of node n: 0 past bit 127 and past its width
 unfoldable pub bitStep : List ℕ → ℕ → ℕ → BitStep
-bitStep g n i = cond (one (leb 128 i) (above (typeAt g n) i)) (here (known false)) (bitOf g n i (operationAt g n))
+bitStep g n i = cond (leb 128 i || above (typeAt g n) i) (here (known false)) (bitOf g n i (operationAt g n))
 
 -- a known bit turned over; what is not known comes to None
-abbrev pub turned : Option Bit → Option Bit
-turned none = none
-turned (some (known b)) = some (known (not b))
-turned (some (source n i)) = none
+abbrev pub negatedBit : Option Bit → Option Bit
+negatedBit none = none
+negatedBit (some (known b)) = some (known (not b))
+negatedBit (some (source n i)) = none
 
 -- a bit by its step, and by what stands for the operands' bits
 abbrev pub reached : BitStep → (ℕ → ℕ → Option Bit) → Option Bit
 reached (here b) f = some b
 reached (from p i) f = f p i
-reached (flipped p i) f = turned (f p i)
+reached (flipped p i) f = negatedBit (f p i)
 
 -- the most steps
 abbrev pub DEPTH : ℕ
@@ -136,7 +136,7 @@ sameBase (some b) n = eqb b n
 -- the bits with bit i: it is known, or the same bit of the one node
 abbrev pub withBit : Field → ℕ → Bit → Option Field
 withBit f i (known b) = some (record { base = f .base; keep = f .keep; literal = cond b (bitOr (f .literal) (power i)) (f .literal) })
-withBit f i (source n s) = only (both (eqb s i) (sameBase (f .base) n)) (record { base = some n; keep = bitOr (f .keep) (power i); literal = f .literal })
+withBit f i (source n s) = only (eqb s i && sameBase (f .base) n) (record { base = some n; keep = bitOr (f .keep) (power i); literal = f .literal })
 
 -- bit i of a concat
 abbrev pub concatBit : List ℕ → ℕ → ℕ → ℕ → ℕ → Option Bit
@@ -150,11 +150,11 @@ fieldFrom g high low v i (suc k) f =
 
 -- has the low part no bits from its width on?
 abbrev pub lowFits : List ℕ → ℕ → ℕ → Bool
-lowFits g low v = one (narrowType (typeAt g low) v) (fits v (rangeAt g low))
+lowFits g low v = narrowType (typeAt g low) v || fits v (rangeAt g low)
 
 -- the bits of a concat of width w, if all are known or one node's own
-unfoldable pub bitfield : List ℕ → ℕ → ℕ → ℕ → ℕ → Option Field
-bitfield g high low v w = provided (lowFits g low v) (fieldFrom g high low v 0 w noBits)
+unfoldable pub foldBitfieldConcat : List ℕ → ℕ → ℕ → ℕ → ℕ → Option Field
+foldBitfieldConcat g high low v w = provided (lowFits g low v) (fieldFrom g high low v 0 w noBits)
 
 -- ---- a base compared with itself under a mask (bitfield.rs 116 to 150)
 
@@ -195,18 +195,18 @@ pub data Look : Type 0 where
   found : Mask → Look
 
 -- is it base And keep, with no bit both kept and set?
-abbrev pub keeps : ℕ → ℕ → ℕ → Chain → Bool
-keeps base w v c = both (sameBinary (c .op) bi.And) (both (eqb (c .base) base) (both (eqb (bitAnd v (c .value)) 0) (leb v (mask w))))
+abbrev pub keeps : ℕ → ℕ → ℕ → ByConstant → Bool
+keeps base w v c = sameBinary (c .op) bi.And && (eqb (c .base) base && (eqb (bitAnd v (c .value)) 0 && leb v (mask w)))
 
 -- the comparison of the bits that are not kept with the literal
-abbrev pub changed : Binary → ℕ → ℕ → ℕ → Chain → Mask
-changed o base w v c =
+abbrev pub changedBits : Binary → ℕ → ℕ → ℕ → ByConstant → Mask
+changedBits o base w v c =
     record { type = ty.Bits w; base = base; mask = bitAnd (u128.not (c .value)) (mask w); result = ty.Bool; op = o; literal = v }
 
 -- an update of a base of width w
 abbrev pub lookUpdate : List ℕ → Binary → ℕ → ℕ → Update → Look
 lookUpdate g o base w u =
-    given (chainAt g (u .preserved)) (λ c. cond (keeps base w (u .literal) c) (found (changed o base w (u .literal) c)) next) next
+    given (byConstantAt g (u .preserved)) (λ c. cond (keeps base w (u .literal) c) (found (changedBits o base w (u .literal) c)) next) next
 
 -- a base of this type
 abbrev pub lookTyped : List ℕ → Binary → ℕ → ℕ → ScalarType → Look
@@ -232,8 +232,8 @@ firstFound end l = none
 firstFound (found m) l = some m
 
 -- the masked comparison of two nodes, either being the base
-unfoldable pub maskedComparison : List ℕ → Binary → ℕ → ℕ → Option Mask
-maskedComparison g o left right = firstFound (lookAt g o left right) (lookAt g o right left)
+unfoldable pub foldMaskedComparison : List ℕ → Binary → ℕ → ℕ → Option Mask
+foldMaskedComparison g o left right = firstFound (lookAt g o left right) (lookAt g o right left)
 
 -- ---- what the code's answers stand for
 

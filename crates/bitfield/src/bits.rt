@@ -4,10 +4,10 @@ ghost use mathlib.Core.Path.{_≡_};
 ghost use lib.ListN.{length};
 ghost use Prim.Native.Nat.{_<_};
 ghost use Rattle.word.specs.Value.{val, numberOf};
+ghost use Rattle.word.specs.Option.{given};
 ghost use Rattle.graph.specs.Layout.{REGION};
 ghost use Rattle.graph.specs.Node.{opOf};
-ghost use Rattle.fold.specs.Shape.{given};
-ghost use Rattle.bitfield.specs.Bitfield.{stepOf, maybeBitOf, hasBit, above, maskedBit, unaryBit, bitOf, bitStep, bitAt, turned, here, from, flipped, known, source};
+ghost use Rattle.bitfield.specs.Bitfield.{stepOf, maybeBitOf, hasBit, above, maskedBit, unaryBit, bitOf, bitStep, bitAt, negatedBit, here, from, flipped, known, source};
 use crate::Bit;
 use crate::BitStep;
 use crate::MaybeBit;
@@ -178,8 +178,8 @@ fn bit_step(g: &[u64], id: NodeId, index: u64) -> BitStep
 }
 
 // A known bit turned over; what is not known comes to None.
-fn turned(bit: MaybeBit) -> MaybeBit
-    ensures { λ r. ⌜ maybeBitOf r ≡ turned (maybeBitOf bit) ⌝ }
+fn negated_bit(bit: MaybeBit) -> MaybeBit
+    ensures { λ r. ⌜ maybeBitOf r ≡ negatedBit (maybeBitOf bit) ⌝ }
 {
     let MaybeBit::Some(found) = bit else {
         return MaybeBit::None;
@@ -202,6 +202,6 @@ pub fn bit(g: &[u64], id: NodeId, index: u64, left: u64) -> MaybeBit
     match step {
         BitStep::Here(found) => MaybeBit::Some(found),
         BitStep::From(source, at) => bit(g, source, at, left - 1),
-        BitStep::Flipped(source, at) => turned(bit(g, source, at, left - 1)),
+        BitStep::Flipped(source, at) => negated_bit(bit(g, source, at, left - 1)),
     }
 }

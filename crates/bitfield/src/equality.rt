@@ -6,19 +6,19 @@ ghost use Rattle.graph.specs.Layout.{REGION};
 ghost use mathlib.Core.Option.{some};
 ghost use Rattle.range.specs.declared.ScalarType.the-variants as ty;
 ghost use Rattle.graph.specs.Node as node;
-ghost use Rattle.fold.specs.Shape.{oneChainOf};
+ghost use Rattle.fold.specs.Shape.{oneByConstantOf};
 ghost use Rattle.bitfield.specs.Bitfield.{maskOf};
-ghost use Rattle.bitfield.specs.Bitfield.{maybeUpdateOf, oneUpdateOf, updateOf, updateAt, lookOf, keeps, changed, lookUpdate, lookTyped, lookAt, foundIn, maybeMaskOf, maskedComparison};
+ghost use Rattle.bitfield.specs.Bitfield.{maybeUpdateOf, oneUpdateOf, updateOf, updateAt, lookOf, keeps, changedBits, lookUpdate, lookTyped, lookAt, foundIn, maybeMaskOf, foldMaskedComparison};
 use crate::Look;
 use crate::Masked;
 use crate::MaybeMasked;
 use crate::MaybeUpdate;
 use crate::Update;
 use evaluate::Binary;
-use fold::Chain;
-use fold::MaybeChain;
+use fold::ByConstant;
+use fold::MaybeByConstant;
 use fold::operator::same_binary;
-use fold::shape::chain_at;
+use fold::shape::by_constant_at;
 use fold::shape::same_type;
 use graph::NodeId;
 use graph::Operation;
@@ -31,7 +31,7 @@ use word::MaybeWord;
 use word::Word;
 
 // An update that sets nothing.
-fn whole(id: NodeId) -> MaybeUpdate
+fn sets_nothing(id: NodeId) -> MaybeUpdate
     ensures { λ r. ⌜ maybeUpdateOf r ≡ some (record { preserved = id .0; literal = 0 }) ⌝ }
 {
     MaybeUpdate::Some(Update {
@@ -46,7 +46,7 @@ fn binary_update(g: &[u64], id: NodeId, op: Binary, left: NodeId, right: NodeId)
     ensures { λ r. ⌜ maybeUpdateOf r ≡ updateOf (now (g .entry)) (id .0) (node.binary op (left .0) (right .0)) ⌝ }
 {
     if !same_binary(op, Binary::Or) {
-        return whole(id);
+        return sets_nothing(id);
     }
     let value = literal(g, right);
     match value {
@@ -64,33 +64,33 @@ fn update_at(g: &[u64], id: NodeId) -> MaybeUpdate
 {
     let operation = operation_at(g, id);
     match operation {
-        Operation::Constant(_) => whole(id),
-        Operation::Input(_) => whole(id),
-        Operation::Refine(_) => whole(id),
-        Operation::Effect(_) => whole(id),
+        Operation::Constant(_) => sets_nothing(id),
+        Operation::Input(_) => sets_nothing(id),
+        Operation::Refine(_) => sets_nothing(id),
+        Operation::Effect(_) => sets_nothing(id),
         Operation::Slice {
             value: _,
             offset: _,
             width: _,
-        } => whole(id),
+        } => sets_nothing(id),
         Operation::Concat {
             high: _,
             low: _,
             low_width: _,
-        } => whole(id),
-        Operation::Unary(_, _) => whole(id),
+        } => sets_nothing(id),
+        Operation::Unary(_, _) => sets_nothing(id),
         Operation::Binary(op, left, right) => binary_update(g, id, op, left, right),
     }
 }
 
 // Is it base And keep, with no bit both kept and set?
-fn keeps(base: NodeId, width: u16, value: Word, chain: Chain) -> bool
-    ensures { λ r. ⌜ r ≡ keeps (base .0) width (val value) (oneChainOf chain) ⌝ }
+fn keeps(base: NodeId, width: u16, value: Word, shape: ByConstant) -> bool
+    ensures { λ r. ⌜ r ≡ keeps (base .0) width (val value) (oneByConstantOf shape) ⌝ }
 {
-    let op = chain.op;
-    let other = chain.base;
+    let op = shape.op;
+    let other = shape.base;
     if same_binary(op, Binary::And) && other.0 == base.0 {
-        let shared = value.bitand(chain.value);
+        let shared = value.bitand(shape.value);
         if shared.is_zero() {
             return value.le(mask(width));
         }
@@ -99,10 +99,10 @@ fn keeps(base: NodeId, width: u16, value: Word, chain: Chain) -> bool
 }
 
 // The comparison of the bits that are not kept with the literal.
-fn changed(op: Binary, base: NodeId, width: u16, value: Word, chain: Chain) -> Masked
-    ensures { λ r. ⌜ maskOf r ≡ changed op (base .0) width (val value) (oneChainOf chain) ⌝ }
+fn changed_bits(op: Binary, base: NodeId, width: u16, value: Word, shape: ByConstant) -> Masked
+    ensures { λ r. ⌜ maskOf r ≡ changedBits op (base .0) width (val value) (oneByConstantOf shape) ⌝ }
 {
-    let keep = chain.value;
+    let keep = shape.value;
     let rest = keep.not();
     Masked {
         ty: ScalarType::Bits(width),
@@ -119,18 +119,18 @@ fn look_update(g: &[u64], op: Binary, base: NodeId, width: u16, update: Update) 
     ensures { λ r. ⌜ lookOf r ≡ lookUpdate (now (g .entry)) op (base .0) width (oneUpdateOf update) ⌝ }
 {
     let literal = update.literal;
-    let preserved = chain_at(g, update.preserved);
-    let MaybeChain::Some(chain) = preserved else {
+    let preserved = by_constant_at(g, update.preserved);
+    let MaybeByConstant::Some(shape) = preserved else {
         return Look::Next;
     };
-    if keeps(base, width, literal, chain) {
-        Look::Found(changed(op, base, width, literal, chain))
+    if keeps(base, width, literal, shape) {
+        Look::Found(changed_bits(op, base, width, literal, shape))
     } else {
         Look::Next
     }
 }
 
-fn look_bits(g: &[u64], op: Binary, base: NodeId, updated: NodeId, width: u16) -> Look
+fn look_at_bits(g: &[u64], op: Binary, base: NodeId, updated: NodeId, width: u16) -> Look
     requires { ⌜ length (now g) ≡ REGION ⌝ }
     ensures { λ r. ⌜ lookOf r ≡ lookTyped (now (g .entry)) op (base .0) (updated .0) (ty.Bits width) ⌝ }
 {
@@ -152,7 +152,7 @@ fn look_at(g: &[u64], op: Binary, base: NodeId, updated: NodeId) -> Look
     let ty = type_at(g, base);
     match ty {
         ScalarType::Bool => Look::Next,
-        ScalarType::Bits(width) => look_bits(g, op, base, updated, width),
+        ScalarType::Bits(width) => look_at_bits(g, op, base, updated, width),
         ScalarType::Integer => Look::Next,
     }
 }
@@ -168,9 +168,9 @@ fn found_in(look: Look) -> MaybeMasked
 }
 
 // The masked comparison of two nodes: the left one as base, or where it says so the right one.
-pub fn masked_comparison(g: &[u64], op: Binary, left: NodeId, right: NodeId) -> MaybeMasked
+pub fn fold_masked_comparison(g: &[u64], op: Binary, left: NodeId, right: NodeId) -> MaybeMasked
     requires { ⌜ length (now g) ≡ REGION ⌝ }
-    ensures { λ r. ⌜ maybeMaskOf r ≡ maskedComparison (now (g .entry)) op (left .0) (right .0) ⌝ }
+    ensures { λ r. ⌜ maybeMaskOf r ≡ foldMaskedComparison (now (g .entry)) op (left .0) (right .0) ⌝ }
 {
     let look = look_at(g, op, left, right);
     match look {

@@ -4,7 +4,7 @@ ghost use lib.ListN.{length};
 ghost use Rattle.word.specs.Value.{val};
 ghost use Rattle.graph.specs.Layout.{REGION};
 ghost use Rattle.fold.specs.Shape.{idOf};
-ghost use Rattle.bitfield.specs.Bitfield.{maybeBitOf, oneBitOf, fieldOf, maybeFieldOf, power, sameBase, withBit, concatBit, lowFits, bitfield, noBits, fieldFrom};
+ghost use Rattle.bitfield.specs.Bitfield.{maybeBitOf, oneBitOf, fieldOf, maybeFieldOf, power, sameBase, withBit, concatBit, lowFits, foldBitfieldConcat, noBits, fieldFrom};
 use crate::Bit;
 use crate::Field;
 use crate::MaybeBit;
@@ -118,9 +118,15 @@ fn all_bits(g: &[u64], high: NodeId, low: NodeId, low_width: u16, width: u16) ->
 }
 
 // The bits of a concat, if all are known or one node's own.
-pub fn bitfield(g: &[u64], high: NodeId, low: NodeId, low_width: u16, width: u16) -> MaybeField
+pub fn fold_bitfield_concat(
+    g: &[u64],
+    high: NodeId,
+    low: NodeId,
+    low_width: u16,
+    width: u16,
+) -> MaybeField
     requires { ⌜ length (now g) ≡ REGION ⌝ }
-    ensures { λ r. ⌜ maybeFieldOf r ≡ bitfield (now (g .entry)) (high .0) (low .0) «low_width» width ⌝ }
+    ensures { λ r. ⌜ maybeFieldOf r ≡ foldBitfieldConcat (now (g .entry)) (high .0) (low .0) «low_width» width ⌝ }
 {
     if low_fits(g, low, low_width) {
         all_bits(g, high, low, low_width, width)

@@ -13,11 +13,11 @@ pub bit-lt : (n i : ℕ) → bit n i < 2
 unfolding bit
 bit-lt n i = mod-lt (n / 2 ^ i) (omega arith)
 
-pub bit-low : (n : ℕ) → bit n 0 ≡ n % 2
+bit-low : (n : ℕ) → bit n 0 ≡ n % 2
 unfolding bit
 bit-low n = ap (λ (m : ℕ). m % 2) (div-one n)
 
-pub bit-half : (n i : ℕ) → bit (n / 2) i ≡ bit n (suc i)
+bit-half : (n i : ℕ) → bit (n / 2) i ≡ bit n (suc i)
 unfolding bit
 bit-half n i = ap (λ (m : ℕ). m % 2) (shr-shr n 1 i ∙ ap (λ (k : ℕ). n / 2 ^ k) (add-comm 1 i ∙ add-one i))
 

@@ -45,11 +45,11 @@ module _ (P : List ℕ → Type 0) (one : (g : List ℕ) (t : ScalarType) (r : O
   run-keeps (suc t) c zero g h = h
   run-keeps (suc t) c (suc u) g h = exec-keeps (run t) (run-keeps t) (step c g) u g h
 
-  pub build-keeps : (c : Call) (u : ℕ) (g : List ℕ) → P g → P (region (build c u g))
+  build-keeps : (c : Call) (u : ℕ) (g : List ℕ) → P g → P (region (build c u g))
   unfolding build
   build-keeps c u g h = run-keeps u c u g h
 
-  pub range-keeps : (v low high u : ℕ) (g : List ℕ) → P g → P (region (unsignedRange v low high u g))
+  range-keeps : (v low high u : ℕ) (g : List ℕ) → P g → P (region (unsignedRange v low high u g))
   unfolding unsignedRange
   range-keeps v low high u g h = exec-keeps build build-keeps (rangeStep (typeAt g v) v low high) u g h
 

@@ -41,7 +41,7 @@ reply (out a u g) = a
 -- ---- the units never grow
 
 -- no builder gives units back
-abbrev pub Falls : (Call → ℕ → List ℕ → Out) → Type 0
+abbrev Falls : (Call → ℕ → List ℕ → Out) → Type 0
 Falls f = (c : Call) (u : ℕ) (g : List ℕ) → left (f c u g) ≤ u
 
 onId-falls : (a : Reply) (u b : ℕ) (g : List ℕ) (k : ℕ → ℕ → List ℕ → Out) → u ≤ b → ((n v : ℕ) (h : List ℕ) → left (k n v h) ≤ v) → left (onId a u g k) ≤ b
@@ -135,7 +135,7 @@ build-step c zero g e = absurd (e refl)
 build-step c (suc u) g e =
     rw (sub-one) (exec-same (run u) build u (run-falls u) (λ d v h m. run-same u v d v h m (le-refl v)) (step c g) u g (le-refl u))
 
-pub build-falls : (c : Call) (u : ℕ) (g : List ℕ) → left (build c u g) ≤ u
+build-falls : (c : Call) (u : ℕ) (g : List ℕ) → left (build c u g) ≤ u
 unfolding build
 build-falls c u g = run-falls u c u g
 
@@ -182,7 +182,7 @@ onId-bind f room u g c k = refl
 onId-bind f units u g c k = refl
 
 -- a constant, a builder on it, and what follows: the first two as a program of their own
-pub constant-call : (f : Call → ℕ → List ℕ → Out) (t : ScalarType) (v : ℕ) (c : ℕ → Call) (k : ℕ → Prog) (u : ℕ) (g : List ℕ) →
+constant-call : (f : Call → ℕ → List ℕ → Out) (t : ScalarType) (v : ℕ) (c : ℕ → Call) (k : ℕ → Prog) (u : ℕ) (g : List ℕ) →
     exec f (constantThen t v (λ n. call (c n) k)) u g ≡ onOut (exec f (constantThen t v (λ n. tail (c n))) u g) (λ n w h. exec f (k n) w h)
 constant-call f t v c k u g =
     onId-bind f (inserted g t (constantInterval t (reduced t v)) (node.constant (reduced t v)) .answer) u

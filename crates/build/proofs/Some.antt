@@ -1,12 +1,13 @@
 -- slice and concat always answer a node, or are refused: the source's `expect` and its plain return types are right.
 use Prim.Native.Nat.{ℕ, zero, suc, _+_, _-_}
 use mathlib.Core.Path.{_≡_, refl, ap, _∙_}
-use mathlib.Core.Bool.{Bool, true, false, cond, false≢true}
+use mathlib.Core.Bool.{Bool, true, false, cond, false≢true, _&&_, _||_}
 use mathlib.Core.List.{List}
 use mathlib.Core.Option.{Option, none, some}
 use lib.Dec.{eqb, ltb, leb}
-use Rattle.word.specs.Value.{residue, provided, only}
-use Rattle.range.specs.Interval.{Interval, both, one, nonnegative, insideBits, typeInterval}
+use Rattle.word.specs.Value.{residue}
+use Rattle.word.specs.Option.{only, provided, given}
+use Rattle.range.specs.Interval.{Interval, nonnegative, insideBits, typeInterval}
 use Rattle.range.specs.declared.ScalarType.{ScalarType}
 use Rattle.range.specs.declared.ScalarType.the-variants as ty
 use Rattle.range.proofs.Sound.{tests}
@@ -17,12 +18,12 @@ use Rattle.graph.specs.Layout.{LIMIT, countOf}
 use Rattle.graph.specs.Node as node
 use Rattle.graph.specs.Node.{Op, wordsOf, typeAt, rangeAt, operationAt}
 use Rattle.graph.specs.Insert.{Reply, id, nothing, room, units, Made, literal, resolve, interned, appended, foundOr, inserted, constantInterval}
-use Rattle.fold.specs.Shape.{given, sameType, fits}
+use Rattle.fold.specs.Shape.{sameType, fits}
 use Rattle.plan.specs.Plan as plan
 use Rattle.plan.specs.Plan.{Plan}
 use Rattle.build.specs.Rest.{restPlan}
-use Rattle.plan.specs.Single.{identityPlan}
-use Rattle.bitfield.specs.Bitfield.{above, Field, bitfield}
+use Rattle.plan.specs.OneOperand.{identityPlan}
+use Rattle.bitfield.specs.Bitfield.{above, Field, foldBitfieldConcat}
 use Rattle.plan_slice.specs.Slice.{lowered, boundedPlan, newSlice, sliceOperation, slicePart, slicePlan, sliceFirst, concatPlan, cutOf, adjacent, Cut, joined, joinedPlan, fieldPlan, concatField, concatOpen, concatFirst}
 use Rattle.build.specs.Build.{Call, identity, slice, concat, Out, out, Prog, add, call, tries, answer, tail, constantThen, planProg, firstProg, attemptProg, onId, onOut, onNone, exec, run, build}
 use Rattle.build.proofs.Laws.{reply}
@@ -125,8 +126,8 @@ operation-sure g (node.binary b i j) v p w = tt
 
 part-sure : (g : List ℕ) (v o w : ℕ) → Sure g (slicePart g v o w)
 part-sure g v o w =
-    either g (one (leb 128 o) (above (typeAt g v) o)) (plan.constant (ty.Bits w) 0) _ tt
-    (either g (both (eqb o 0) (sameType (typeAt g v) (ty.Bits w))) (plan.give v) (sliceOperation (operationAt g v) v o w) tt
+    either g (leb 128 o || above (typeAt g v) o) (plan.constant (ty.Bits w) 0) _ tt
+    (either g (eqb o 0 && sameType (typeAt g v) (ty.Bits w)) (plan.give v) (sliceOperation (operationAt g v) v o w) tt
     (operation-sure g (operationAt g v) v o w))
 
 plan-sure : (g : List ℕ) (v o w : ℕ) → Sure g (slicePlan g v o w)
@@ -143,7 +144,7 @@ plan-sure g v o w = by (rangeAt g v) refl
     by : (r : Option Interval) → rangeAt g v ≡ r → Sure g (given (boundedPlan r v o w) (λ p. p) (slicePart g v o w))
     by none e = part-sure g v o w
     by (some a) e =
-        choose (nonnegative a) (eqb (lowered (residue 128 (a .high)) o) 0) (both (eqb o 0) (insideBits w a))
+        choose (nonnegative a) (eqb (lowered (residue 128 (a .high)) o) 0) (eqb o 0 && insideBits w a)
         (λ q. ap (fits w) e ∙ tests (eqb o 0) (insideBits w a) q .1)
 
 -- ---- by the fuel
@@ -218,7 +219,7 @@ module _ (t : ℕ) (slices : (v o w u : ℕ) (g : List ℕ) → IsSome (reply (r
       by (some b) = choose b (sameType (typeAt g b) (ty.Bits w))
 
   bits-some : (g : List ℕ) (h l v w u : ℕ) → IsSome (reply (exec (run t) (firstProg (concatField g h l v w)) u g))
-  bits-some g h l v w u = by (bitfield g h l v w)
+  bits-some g h l v w u = by (foldBitfieldConcat g h l v w)
     where
       by : (f : Option Field) → IsSome (reply (exec (run t) (firstProg (given f (fieldPlan g h l v w) (plan.does (concatPlan h l v w)))) u g))
       by none = concat-node h l v w u g
@@ -235,7 +236,7 @@ module _ (t : ℕ) (slices : (v o w u : ℕ) (g : List ℕ) → IsSome (reply (r
       by : (a b : Option Cut) → IsSome (reply (exec (run t) (firstProg (given (adjacent a b v w) plan.does (concatField g h l v w))) u g))
       by none b = bits-some g h l v w u
       by (some a) none = bits-some g h l v w u
-      by (some a) (some b) = choose a b (both (eqb (a .value) (b .value)) (eqb (a .offset) (b .offset + v)))
+      by (some a) (some b) = choose a b (eqb (a .value) (b .value) && eqb (a .offset) (b .offset + v))
 
   concat-first : (h l v w u : ℕ) (g : List ℕ) → IsSome (reply (exec (run t) (firstProg (concatFirst g h l v w)) u g))
   unfolding concatFirst

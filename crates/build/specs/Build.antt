@@ -1,10 +1,10 @@
 -- What the builders build. A builder's work is a program of a few steps: add a node, call a builder, try a fold, look at the region.
-use mathlib.Core.Bool.{Bool, cond}
+use mathlib.Core.Bool.{Bool, cond, _&&_}
 use mathlib.Core.List.{List}
 use mathlib.Core.Option.{Option}
 use Prim.Native.Nat.{ℕ, zero, suc}
 use lib.Dec.{leb}
-use Rattle.range.specs.Interval.{Interval, both}
+use Rattle.range.specs.Interval.{Interval}
 use Rattle.range.specs.declared.ScalarType.{ScalarType}
 use Rattle.range.specs.declared.ScalarType.the-variants as ty
 use Rattle.evaluate.specs.Evaluate.{reduced}
@@ -21,7 +21,7 @@ use Rattle.plan.specs.Plan as plan
 use Rattle.bitfield.specs.Bitfield.{Mask}
 use Rattle.plan.specs.Plan.{Plan, Attempt, First}
 use Rattle.build.specs.Rest.{restPlan}
-use Rattle.plan.specs.Single.{identityPlan, unaryFirst, modularPlan}
+use Rattle.plan.specs.OneOperand.{identityPlan, unaryFirst, modularPlan}
 use Rattle.plan_binary.specs.Binary.{binaryFirst}
 use Rattle.plan_slice.specs.Slice.{sliceFirst, concatFirst}
 
@@ -159,7 +159,7 @@ rangeProg t v low high =
 
 -- at most 64 bits, and a range of them that is not empty
 abbrev pub isTestable : ℕ → ℕ → ℕ → Bool
-isTestable w low high = both (leb w 64) (both (leb low high) (leb high (mask w)))
+isTestable w low high = leb w 64 && (leb low high && leb high (mask w))
 
 -- None if not Bits, of more than 64, low above high, or high above the mask
 abbrev pub rangeStep : ScalarType → ℕ → ℕ → ℕ → Prog

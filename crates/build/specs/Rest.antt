@@ -2,7 +2,7 @@
 use mathlib.Core.List.{List}
 use Prim.Native.Nat.{ℕ}
 use Rattle.plan.specs.Plan.{Plan, Rest, unaryRest, binaryRest, sliceRest, concatRest}
-use Rattle.plan.specs.Single.{unaryPlan}
+use Rattle.plan.specs.OneOperand.{unaryPlan}
 use Rattle.plan_binary.specs.Binary.{binaryPlan}
 use Rattle.plan_slice.specs.Slice.{slicePlan, concatPlan}
 

@@ -6,7 +6,7 @@ ghost use Rattle.plan.specs.Plan.{planOf, restOf};
 ghost use Rattle.build.specs.Rest.{restPlan};
 use plan::Plan;
 use plan::Rest;
-use plan::single::unary_plan;
+use plan::one_operand::unary_plan;
 use plan_binary::binary::binary_plan;
 use plan_slice::slice::concat_plan;
 use plan_slice::slice::slice_plan;

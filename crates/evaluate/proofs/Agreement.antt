@@ -15,11 +15,12 @@ use lib.Pow.{pow-pos, pow-mono, shr-le, not-mod}
 use lib.Signed.{ltZ, leZ, shrZ, quotZ, remZ}
 use Rattle.range.specs.declared.ScalarType.{ScalarType}
 use Rattle.range.specs.declared.ScalarType.the-variants as ty
-use Rattle.word.specs.Value.{residue, signed, fits, fitted, provided, only, quotient, remainder}
+use Rattle.word.specs.Value.{residue, signed, fits, fitted, quotient, remainder}
+use Rattle.word.specs.Option.{only, provided, mapped, fromBool}
 use Rattle.word.proofs.Integer.{residue-lt, residue-add, residue-sub, residue-mul, residue-neg, residue-pos, residue-signed}
 use Rattle.evaluate.specs.declared.Unary.the-variants as un
 use Rattle.evaluate.specs.declared.Binary.the-variants as bi
-use Rattle.evaluate.specs.Evaluate.{evaluateUnary, evaluateBinary, mapped, reduced, fromBool, shiftWidth, arithmeticShift, sliceValue, concatValue}
+use Rattle.evaluate.specs.Evaluate.{unaryValue, binaryValue, reduced, shiftWidth, arithmeticShift, sliceValue, concatValue}
 use Rattle.evaluate.specs.SmtLib.{concat, extract, zero-extend, sign-extend, bvnot, bvneg, bvand, bvor, bvxor, bvadd, bvsub, bvmul, bvshl, bvlshr, bvashr, msb, bvult, bvule, bvslt, bvsle, bvudiv, bvurem, bvsdiv, bvsrem}
 use Rattle.evaluate.proofs.Answers.{given, divided, divided-some}
 use Rattle.evaluate.proofs.Division.{quotient-value, remainder-value, at-128, unsigned-quotient, unsigned-remainder, quotient-first, quotient-second, quotient-both, remainder-first, remainder-second, remainder-both}
@@ -60,8 +61,8 @@ shift-width ty.Integer not-bool = refl
 
 -- ---- unary
 
-pub not-agrees : (w a : ℕ) → 0 < w → w ≤ 128 → a < 2 ^ w → mapped (reduced (ty.Bits w)) (evaluateUnary un.BitNot a) ≡ some (bvnot w a)
-unfolding evaluateUnary
+pub not-agrees : (w a : ℕ) → 0 < w → w ≤ 128 → a < 2 ^ w → mapped (reduced (ty.Bits w)) (unaryValue un.BitNot a) ≡ some (bvnot w a)
+unfolding unaryValue
 not-agrees w a p h l = ap some (over 128 h)
   where
     over : (v : ℕ) → w ≤ v → (2 ^ v - 1 - a) % 2 ^ w ≡ bvnot w a
@@ -69,8 +70,8 @@ not-agrees w a p h l = ap some (over 128 h)
 
 -- to Bits or Integer
 pub sign-extend-agrees : (w : ℕ) (t : ScalarType) (a : ℕ) → 0 < w → w ≤ vectorWidth t → vectorWidth t ≤ 128 → (t ≡ ty.Bool → ⊥) → a < 2 ^ w
-    → mapped (reduced t) (evaluateUnary (un.SignExtend w) a) ≡ some (sign-extend w (vectorWidth t - w) a)
-unfolding evaluateUnary
+    → mapped (reduced t) (unaryValue (un.SignExtend w) a) ≡ some (sign-extend w (vectorWidth t - w) a)
+unfolding unaryValue
 sign-extend-agrees w t a p h g not-bool l =
     let z : ℤ = signed w a in
     rw (ne-eqb w 0 (omega arith), extended-field a w p (omega arith) l)
@@ -81,8 +82,8 @@ fitted-agrees : (z : ℤ) (v : ℕ) → v ≡ residue 128 z → (mapped (residue
 fitted-agrees z v e =
     let g = given (residue 128) true (fits z) z v in (λ q. g .0 q .1, λ q. g .1 (refl, q, sym e))
 
-pub negate-agrees : (a : ℕ) → a < 2 ^ 128 → (evaluateUnary un.Negate a ≡ some (bvneg 128 a)) ↔ (a ≡ 2 ^ 127 → ⊥)
-unfolding evaluateUnary
+pub negate-agrees : (a : ℕ) → a < 2 ^ 128 → (unaryValue un.Negate a ≡ some (bvneg 128 a)) ↔ (a ≡ 2 ^ 127 → ⊥)
+unfolding unaryValue
 negate-agrees a l =
     let z : ℤ = negℤ (signed 128 a) in
     Iff·trans (fitted-agrees z (bvneg 128 a) (sym (ap (bvneg 128) (residue-signed 128 a l)) ∙ residue-neg 128 (signed 128 a)))
@@ -109,13 +110,13 @@ pub slice-past : (m offset width v : ℕ) → 0 < width
 slice-past m offset width v p = slice-agrees (m + (offset + width - m)) offset width v p .1 (omega arith)
 
 -- of an operand of width m, to no more bits: the slice at 0
-pub truncate-agrees : (m w a : ℕ) → 0 < w → (evaluateUnary (un.Truncate w) a ≡ extract-of m (w - 1) 0 a) ↔ (w ≤ m)
-unfolding evaluateUnary
+pub truncate-agrees : (m w a : ℕ) → 0 < w → (unaryValue (un.Truncate w) a ≡ extract-of m (w - 1) 0 a) ↔ (w ≤ m)
+unfolding unaryValue
 truncate-agrees m w a p = rw (div-one, zero-add) at (slice-agrees m 0 w a p)
 
 -- to no fewer bits
-pub zero-extend-agrees : (w t a : ℕ) → w ≤ t → a < 2 ^ w → evaluateUnary (un.Truncate t) a ≡ some (zero-extend (t - w) a)
-unfolding evaluateUnary
+pub zero-extend-agrees : (w t a : ℕ) → w ≤ t → a < 2 ^ w → unaryValue (un.Truncate t) a ≡ some (zero-extend (t - w) a)
+unfolding unaryValue
 zero-extend-agrees w t a h l = ap some (mod-eq-of-lt (lt-of-lt-of-le l (pow-mono h)))
 
 pub concat-agrees : (n h l : ℕ) → concatValue n h l ≡ concat n h l
@@ -148,43 +149,43 @@ sub-residues w x y = add-mod-mod (residue w x) (2 ^ w - residue w y) (2 ^ w) ∙
 -- ---- at a type
 
 module _ (t : ScalarType) (a b : ℕ) (l : a < 2 ^ vectorWidth t) (m : b < 2 ^ vectorWidth t) where
-  pub and-agrees : evaluateBinary bi.And t a b ≡ some (bvand a b)
-  unfolding evaluateBinary
+  pub and-agrees : binaryValue bi.And t a b ≡ some (bvand a b)
+  unfolding binaryValue
   and-agrees = ap some (reduced-value t (bvand a b) (and-lt (vectorWidth t) a b l m))
 
-  pub or-agrees : evaluateBinary bi.Or t a b ≡ some (bvor a b)
-  unfolding evaluateBinary
+  pub or-agrees : binaryValue bi.Or t a b ≡ some (bvor a b)
+  unfolding binaryValue
   or-agrees = ap some (reduced-value t (bvor a b) (or-lt (vectorWidth t) a b l m))
 
-  pub xor-agrees : evaluateBinary bi.Xor t a b ≡ some (bvxor a b)
-  unfolding evaluateBinary
+  pub xor-agrees : binaryValue bi.Xor t a b ≡ some (bvxor a b)
+  unfolding binaryValue
   xor-agrees = ap some (reduced-value t (bvxor a b) (xor-lt (vectorWidth t) a b l m))
 
-  pub udiv-agrees : (evaluateBinary bi.DivideUnsigned t a b ≡ some (bvudiv (vectorWidth t) a b)) ↔ (b ≡ 0 → ⊥)
-  unfolding evaluateBinary
+  pub udiv-agrees : (binaryValue bi.DivideUnsigned t a b ≡ some (bvudiv (vectorWidth t) a b)) ↔ (b ≡ 0 → ⊥)
+  unfolding binaryValue
   udiv-agrees = divided-some t b (a / b) (reduced-value t (a / b) (lt-of-le-of-lt (div-le-self a b) l)) (2 ^ vectorWidth t - 1)
 
-  pub urem-agrees : (evaluateBinary bi.RemainderUnsigned t a b ≡ some (bvurem a b)) ↔ (b ≡ 0 → ⊥)
-  unfolding evaluateBinary
+  pub urem-agrees : (binaryValue bi.RemainderUnsigned t a b ≡ some (bvurem a b)) ↔ (b ≡ 0 → ⊥)
+  unfolding binaryValue
   urem-agrees = divided-some t b (a % b) (reduced-value t (a % b) (lt-of-le-of-lt (mod-le a b) l)) a
 
 -- shifts, for every amount b; SMT-LIB's take one of the same width, below 2 ^ w
 module _ (t : ScalarType) (not-bool : t ≡ ty.Bool → ⊥) (some-width : 0 < vectorWidth t) (at-most : vectorWidth t ≤ 128)
     (a b : ℕ) (l : a < 2 ^ vectorWidth t) where
-  pub shl-agrees : evaluateBinary bi.ShiftLeft t a b ≡ some (bvshl (vectorWidth t) a b)
-  unfolding evaluateBinary
+  pub shl-agrees : binaryValue bi.ShiftLeft t a b ≡ some (bvshl (vectorWidth t) a b)
+  unfolding binaryValue
   shl-agrees =
       ap some
       (ap (reduced t) (shift-left a b) ∙ reduced-word t (λ v. bvshl v a b) not-bool (narrow (a * 2 ^ b) 128 (vectorWidth t) at-most))
 
-  pub lshr-agrees : evaluateBinary bi.ShiftRight t a b ≡ some (bvlshr a b)
-  unfolding evaluateBinary
+  pub lshr-agrees : binaryValue bi.ShiftRight t a b ≡ some (bvlshr a b)
+  unfolding binaryValue
   lshr-agrees =
       ap some
       (ap (reduced t) (shift-right a b (lt-of-lt-of-le l (pow-mono at-most))) ∙ reduced-value t (bvlshr a b) (lt-of-le-of-lt (shr-le a b) l))
 
-  pub ashr-agrees : evaluateBinary bi.ArithmeticShiftRight t a b ≡ some (bvashr (vectorWidth t) a b)
-  unfolding evaluateBinary
+  pub ashr-agrees : binaryValue bi.ArithmeticShiftRight t a b ≡ some (bvashr (vectorWidth t) a b)
+  unfolding binaryValue
   ashr-agrees =
       let w : ℕ = vectorWidth t in
       let z : ℤ = shrZ (signed w a) (2 ^ b) in
@@ -195,81 +196,81 @@ module _ (t : ScalarType) (not-bool : t ≡ ty.Bool → ⊥) (some-width : 0 < v
 -- ---- at Bits(w)
 
 module _ (w a b : ℕ) (some-width : 0 < w) (at-most : w ≤ 128) (l : a < 2 ^ w) (m : b < 2 ^ w) where
-  pub add-agrees : evaluateBinary bi.Add (ty.Bits w) a b ≡ some (bvadd w a b)
-  unfolding evaluateBinary
+  pub add-agrees : binaryValue bi.Add (ty.Bits w) a b ≡ some (bvadd w a b)
+  unfolding binaryValue
   add-agrees = ap some (bits-agree _+ℤ_ bvadd residue-add w a b 128 at-most l m)
 
-  pub sub-agrees : evaluateBinary bi.Sub (ty.Bits w) a b ≡ some (bvsub w a b)
-  unfolding evaluateBinary
+  pub sub-agrees : binaryValue bi.Sub (ty.Bits w) a b ≡ some (bvsub w a b)
+  unfolding binaryValue
   sub-agrees =
       ap some
       (ap (λ (n : ℕ). n % 2 ^ w) (sym (add-mod-mod a (2 ^ 128 - b) (2 ^ 128))) ∙ bits-agree _-ℤ_ bvsub sub-residues w a b 128 at-most l m)
 
-  pub mul-agrees : evaluateBinary bi.Mul (ty.Bits w) a b ≡ some (bvmul w a b)
-  unfolding evaluateBinary
+  pub mul-agrees : binaryValue bi.Mul (ty.Bits w) a b ≡ some (bvmul w a b)
+  unfolding binaryValue
   mul-agrees = ap some (bits-agree _*ℤ_ bvmul residue-mul w a b 128 at-most l m)
 
   -- below width 128 the evaluator reads no field as an integer below 0
-  pub slt-agrees : (evaluateBinary bi.LessSigned ty.Bool a b ≡ some (fromBool (bvslt w a b))) ↔ ((w ≡ 128) ⊎ (msb w a ≡ msb w b))
-  unfolding evaluateBinary
+  pub slt-agrees : (binaryValue bi.LessSigned ty.Bool a b ≡ some (fromBool (bvslt w a b))) ↔ ((w ≡ 128) ⊎ (msb w a ≡ msb w b))
+  unfolding binaryValue
   slt-agrees = Iff·trans (test-answer (ltZ (signed 128 a) (signed 128 b)) (bvslt w a b)) (less-agrees w a b some-width at-most l m)
 
-  pub sle-agrees : (evaluateBinary bi.LessEqualSigned ty.Bool a b ≡ some (fromBool (bvsle w a b))) ↔ ((w ≡ 128) ⊎ (msb w a ≡ msb w b))
-  unfolding evaluateBinary
+  pub sle-agrees : (binaryValue bi.LessEqualSigned ty.Bool a b ≡ some (fromBool (bvsle w a b))) ↔ ((w ≡ 128) ⊎ (msb w a ≡ msb w b))
+  unfolding binaryValue
   sle-agrees = Iff·trans (test-answer (leZ (signed 128 a) (signed 128 b)) (bvsle w a b)) (at-most-agrees w a b some-width at-most l m)
 
-pub ult-agrees : (a b : ℕ) → evaluateBinary bi.LessUnsigned ty.Bool a b ≡ some (fromBool (bvult a b))
-unfolding evaluateBinary
+pub ult-agrees : (a b : ℕ) → binaryValue bi.LessUnsigned ty.Bool a b ≡ some (fromBool (bvult a b))
+unfolding binaryValue
 ult-agrees a b = refl
 
-pub ule-agrees : (a b : ℕ) → evaluateBinary bi.LessEqualUnsigned ty.Bool a b ≡ some (fromBool (bvule a b))
-unfolding evaluateBinary
+pub ule-agrees : (a b : ℕ) → binaryValue bi.LessEqualUnsigned ty.Bool a b ≡ some (fromBool (bvule a b))
+unfolding binaryValue
 ule-agrees a b = refl
 
 -- ---- in 128 bits
 
 module _ (a b : ℕ) (l : a < 2 ^ 128) (m : b < 2 ^ 128) where
-  pub integer-add-agrees : (evaluateBinary bi.Add ty.Integer a b ≡ some (bvadd 128 a b)) ↔ (fits (signed 128 a +ℤ signed 128 b) ≡ true)
-  unfolding evaluateBinary
+  pub integer-add-agrees : (binaryValue bi.Add ty.Integer a b ≡ some (bvadd 128 a b)) ↔ (fits (signed 128 a +ℤ signed 128 b) ≡ true)
+  unfolding binaryValue
   integer-add-agrees = integer-agrees _+ℤ_ bvadd residue-add a b l m
 
-  pub integer-sub-agrees : (evaluateBinary bi.Sub ty.Integer a b ≡ some (bvsub 128 a b)) ↔ (fits (signed 128 a -ℤ signed 128 b) ≡ true)
-  unfolding evaluateBinary
+  pub integer-sub-agrees : (binaryValue bi.Sub ty.Integer a b ≡ some (bvsub 128 a b)) ↔ (fits (signed 128 a -ℤ signed 128 b) ≡ true)
+  unfolding binaryValue
   integer-sub-agrees = integer-agrees _-ℤ_ bvsub sub-residues a b l m
 
-  pub integer-mul-agrees : (evaluateBinary bi.Mul ty.Integer a b ≡ some (bvmul 128 a b)) ↔ (fits (signed 128 a *ℤ signed 128 b) ≡ true)
-  unfolding evaluateBinary
+  pub integer-mul-agrees : (binaryValue bi.Mul ty.Integer a b ≡ some (bvmul 128 a b)) ↔ (fits (signed 128 a *ℤ signed 128 b) ≡ true)
+  unfolding binaryValue
   integer-mul-agrees = integer-agrees _*ℤ_ bvmul residue-mul a b l m
 
   -- the divisions at Bits(128) and Integer: not by 0, and not -(2 ^ 127) by -1
   module _ (t : ScalarType) (whole : vectorWidth t ≡ 128) where
-    pub sdiv-agrees-128 : (evaluateBinary bi.DivideSigned t a b ≡ some (bvsdiv 128 a b))
+    pub sdiv-agrees-128 : (binaryValue bi.DivideSigned t a b ≡ some (bvsdiv 128 a b))
         ↔ ((b ≡ 0 → ⊥) × ((a ≡ 2 ^ 127) × (b ≡ 2 ^ 128 - 1) → ⊥))
-    unfolding evaluateBinary quotient
+    unfolding binaryValue quotient
     sdiv-agrees-128 =
         rw (signed-answer t whole (quotient (signed 128 a) (signed 128 b)))
         (at-128 a b l m (quotZ (signed 128 a) (signed 128 b)) (bvsdiv 128 a b) (quotient-value 128 a b (omega arith) l m))
 
-    pub srem-agrees-128 : (evaluateBinary bi.RemainderSigned t a b ≡ some (bvsrem 128 a b))
+    pub srem-agrees-128 : (binaryValue bi.RemainderSigned t a b ≡ some (bvsrem 128 a b))
         ↔ ((b ≡ 0 → ⊥) × ((a ≡ 2 ^ 127) × (b ≡ 2 ^ 128 - 1) → ⊥))
-    unfolding evaluateBinary remainder
+    unfolding binaryValue remainder
     srem-agrees-128 =
         rw (signed-answer t whole (remainder (signed 128 a) (signed 128 b)))
         (at-128 a b l m (remZ (signed 128 a) (signed 128 b)) (bvsrem 128 a b) (remainder-value 128 a b (omega arith) l m))
 
 -- ---- `=`, `distinct` and `not` of SMT-LIB's core theory
 
-pub equal-agrees : (a b : ℕ) → evaluateBinary bi.Equal ty.Bool a b ≡ some (fromBool (eqb a b))
-unfolding evaluateBinary
+pub equal-agrees : (a b : ℕ) → binaryValue bi.Equal ty.Bool a b ≡ some (fromBool (eqb a b))
+unfolding binaryValue
 equal-agrees a b = refl
 
-pub not-equal-agrees : (a b : ℕ) → evaluateBinary bi.NotEqual ty.Bool a b ≡ some (fromBool (not (eqb a b)))
-unfolding evaluateBinary
+pub not-equal-agrees : (a b : ℕ) → binaryValue bi.NotEqual ty.Bool a b ≡ some (fromBool (not (eqb a b)))
+unfolding binaryValue
 not-equal-agrees a b = refl
 
 -- a Bool is 1 or 0
-pub bool-not-agrees : (t : Bool) → evaluateUnary un.BoolNot (fromBool t) ≡ some (fromBool (not t))
-unfolding evaluateUnary
+pub bool-not-agrees : (t : Bool) → unaryValue un.BoolNot (fromBool t) ≡ some (fromBool (not t))
+unfolding unaryValue
 bool-not-agrees true = refl
 bool-not-agrees false = refl
 
@@ -309,19 +310,19 @@ module _ (w a b : ℕ) (some-width : 0 < w) (under : w < 128) (l : a < 2 ^ w) (m
       (λ f g. (λ o. some-set g, λ z. both f g)) in
       (λ o. let c = q .0 o in k .1 (c .0) .0 (c .1 ∙ e (c .0)), λ c. let z = k .0 c in q .1 (z, k .1 z .1 c ∙ sym (e z)))
 
-  pub sdiv-agrees : (evaluateBinary bi.DivideSigned (ty.Bits w) a b ≡ some (bvsdiv w a b)) ↔ agreeQuotient (msb w a) (msb w b) w a b
+  pub sdiv-agrees : (binaryValue bi.DivideSigned (ty.Bits w) a b ≡ some (bvsdiv w a b)) ↔ agreeQuotient (msb w a) (msb w b) w a b
   sdiv-agrees =
       let h : a / b < 2 ^ w = lt-of-le-of-lt (div-le-self a b) l in
       rw (unsigned-quotient w a b under l m)
-      (unfold evaluateBinary in
+      (unfold binaryValue in
       below-128 (b ≡ 1) (a / b) (bvsdiv w a b) quotZ h (quotient-value w a b some-width l m) (residue-pos w (a / b) h) (omega arith)
       (quotient-first w a b some-width l m) (quotient-second w a b some-width l m) (quotient-both w a b some-width l m))
 
-  pub srem-agrees : (evaluateBinary bi.RemainderSigned (ty.Bits w) a b ≡ some (bvsrem w a b)) ↔ agreeRemainder (msb w a) (msb w b) w a b
+  pub srem-agrees : (binaryValue bi.RemainderSigned (ty.Bits w) a b ≡ some (bvsrem w a b)) ↔ agreeRemainder (msb w a) (msb w b) w a b
   srem-agrees =
       let h : a % b < 2 ^ w = lt-of-le-of-lt (mod-le a b) l in
       rw (unsigned-remainder w a b under l m)
-      (unfold evaluateBinary in
+      (unfold binaryValue in
       below-128 ((b ≡ 0 → ⊥) × (a % b ≡ 0) × ((2 ^ w - a) % b ≡ 0)) (a % b) (bvsrem w a b) remZ h (remainder-value w a b some-width l m)
       (residue-pos w (a % b) h) (λ c. c .0) (remainder-first w a b some-width l m) (remainder-second w a b some-width l m)
       (remainder-both w a b some-width l m))

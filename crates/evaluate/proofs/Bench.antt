@@ -1,7 +1,7 @@
 -- The bench of document 01: a table of computed and expected answers, equal in every row by one test that antt computes.
 -- Assumes nothing.
 use mathlib.Core.Path.{_≡_, refl, ap, ap₂}
-use mathlib.Core.Bool.{Bool, true, false}
+use mathlib.Core.Bool.{Bool, true, false, _&&_}
 use mathlib.Core.List.{List, [], _∷_, _++_}
 use mathlib.Core.Option.{Option, none, some}
 use Prim.Native.Nat.{ℕ, zero, suc, _-_, _^_, _<_}
@@ -10,12 +10,13 @@ use lib.Count.{leadingZeros, trailingZeros}
 use lib.Dec.{T, eqb→eq}
 use lib.IntN.{ℤ, pos, negsuc}
 use lib.ListN.{length, getD}
-use Rattle.range.specs.Interval.{Interval, both, mulInterval}
+use Rattle.range.specs.Interval.{Interval, mulInterval}
 use Rattle.range.specs.declared.ScalarType.the-variants as ty
 use Rattle.word.specs.Value.{residue, signed, fits, quotient, remainder, eqZ}
+use Rattle.word.specs.Option.{fromBool}
 use Rattle.evaluate.specs.declared.Unary.the-variants as un
 use Rattle.evaluate.specs.declared.Binary.the-variants as bi
-use Rattle.evaluate.specs.Evaluate.{evaluateUnary, evaluateBinary, fromBool, sliceValue}
+use Rattle.evaluate.specs.Evaluate.{unaryValue, binaryValue, sliceValue}
 use Rattle.evaluate.specs.SmtLib.{bvslt}
 
 -- ---- answers as lists: none is empty
@@ -50,13 +51,13 @@ abbrev same : List ℤ → List ℤ → Bool
 same [] [] = true
 same [] (y ∷ ys) = false
 same (x ∷ xs) [] = false
-same (x ∷ xs) (y ∷ ys) = both (eqZ x y) (same xs ys)
+same (x ∷ xs) (y ∷ ys) = eqZ x y && same xs ys
 
 abbrev every : List Row → Bool
 every [] = true
-every (r ∷ rs) = both (same (r .0) (r .1)) (every rs)
+every (r ∷ rs) = same (r .0) (r .1) && every rs
 
-both-parts : (a b : Bool) → T (both a b) → T a × T b
+both-parts : (a b : Bool) → T (a && b) → T a × T b
 both-parts true b t = (tt, t)
 both-parts false b t = absurd t
 
@@ -86,20 +87,20 @@ rows (r ∷ rs) t (suc k) h = rows rs (both-parts (same (r .0) (r .1)) (every rs
 
 abbrev bench : List Row
 bench =
-    (integer (evaluateUnary (un.SignExtend 8) 128), negsuc 127 ∷ [])
-    ∷ (integer (evaluateUnary (un.SignExtend 8) 127), pos 127 ∷ [])
-    ∷ (integer (evaluateUnary un.Negate (pattern (negsuc (2 ^ 127 - 1)))), [])
-    ∷ (number (evaluateBinary bi.ShiftLeft (ty.Bits 8) 129 1), pos 2 ∷ [])
-    ∷ (number (evaluateBinary bi.ArithmeticShiftRight (ty.Bits 8) 128 200), pos 255 ∷ [])
-    ∷ (number (evaluateBinary bi.LessSigned ty.Bool 128 1) ++ number (some (fromBool (bvslt 8 128 1))), pos 0 ∷ pos 1 ∷ [])
-    ∷ (integer (evaluateBinary bi.DivideSigned ty.Integer (pattern (negsuc 6)) 2), negsuc 2 ∷ [])
-    ∷ (integer (evaluateBinary bi.RemainderSigned ty.Integer (pattern (negsuc 6)) 3), negsuc 0 ∷ [])
-    ∷ (number (evaluateUnary (un.LeadingZeros 8) 16), pos 3 ∷ [])
-    ∷ (number (evaluateUnary (un.TrailingZeros 8) 0), pos 8 ∷ [])
+    (integer (unaryValue (un.SignExtend 8) 128), negsuc 127 ∷ [])
+    ∷ (integer (unaryValue (un.SignExtend 8) 127), pos 127 ∷ [])
+    ∷ (integer (unaryValue un.Negate (pattern (negsuc (2 ^ 127 - 1)))), [])
+    ∷ (number (binaryValue bi.ShiftLeft (ty.Bits 8) 129 1), pos 2 ∷ [])
+    ∷ (number (binaryValue bi.ArithmeticShiftRight (ty.Bits 8) 128 200), pos 255 ∷ [])
+    ∷ (number (binaryValue bi.LessSigned ty.Bool 128 1) ++ number (some (fromBool (bvslt 8 128 1))), pos 0 ∷ pos 1 ∷ [])
+    ∷ (integer (binaryValue bi.DivideSigned ty.Integer (pattern (negsuc 6)) 2), negsuc 2 ∷ [])
+    ∷ (integer (binaryValue bi.RemainderSigned ty.Integer (pattern (negsuc 6)) 3), negsuc 0 ∷ [])
+    ∷ (number (unaryValue (un.LeadingZeros 8) 16), pos 3 ∷ [])
+    ∷ (number (unaryValue (un.TrailingZeros 8) 0), pos 8 ∷ [])
     ∷ (ends (mulInterval (interval (negsuc 2) (pos 2)) (interval (negsuc 3) (pos 5))), negsuc 14 ∷ pos 12 ∷ [])
     ∷ (number (some (sliceValue 4 8 43981)), pos 188 ∷ [])
     ∷ []
 
 pub bench-holds : (k : ℕ) → k < length bench → row bench k .0 ≡ row bench k .1
-unfolding evaluateUnary evaluateBinary residue signed fits quotient remainder leadingZeros trailingZeros mulInterval
+unfolding unaryValue binaryValue residue signed fits quotient remainder leadingZeros trailingZeros mulInterval
 bench-holds = rows bench tt

@@ -13,10 +13,11 @@ use lib.IntN.{ℤ, pos, negsuc, negℤ, natAbs}
 use lib.Pow.{pow-pos, pow-mono}
 use lib.Signed.{mag, quotZ, remZ}
 use Rattle.range.specs.declared.ScalarType.the-variants as ty
-use Rattle.word.specs.Value.{residue, signed, fits, only, provided, quotient, remainder}
+use Rattle.word.specs.Value.{residue, signed, fits, quotient, remainder}
+use Rattle.word.specs.Option.{only, provided, mapped}
 use Rattle.word.proofs.Integer.{residue-pos, residue-negsuc}
 use Rattle.evaluate.specs.declared.Binary.the-variants as bi
-use Rattle.evaluate.specs.Evaluate.{mapped, reduced, evaluateBinary}
+use Rattle.evaluate.specs.Evaluate.{reduced, binaryValue}
 use Rattle.evaluate.specs.SmtLib.{bySigns, bvneg, bvudiv, bvurem, bvsdiv, bvsrem}
 use Rattle.evaluate.proofs.Answers.{given}
 use Rattle.evaluate.proofs.Fields.{halves, negative, by-top, by-tops, narrow, negated, negated-some, fits-below, negative-below, signed-narrow}
@@ -132,12 +133,12 @@ module _ (w a b : ℕ) (under : w < 128) (l : a < 2 ^ w) (m : b < 2 ^ w) where
       fits-below (pos (a / b)) .1 (lt-of-le-of-lt (div-le-self a b) (lt-of-lt-of-le l (pow-mono {i = w} {j = 127} (omega arith)))) in
       rw f (narrowed w n (ltb 0 b) (omega arith))
 
-  pub unsigned-quotient : evaluateBinary bi.DivideSigned (ty.Bits w) a b ≡ evaluateBinary bi.DivideUnsigned (ty.Bits w) a b
-  unfolding evaluateBinary quotient
+  pub unsigned-quotient : binaryValue bi.DivideSigned (ty.Bits w) a b ≡ binaryValue bi.DivideUnsigned (ty.Bits w) a b
+  unfolding binaryValue quotient
   unsigned-quotient = rw (signed-narrow w 128 a under l, signed-narrow w 128 b under m) (unsigned (a / b))
 
-  pub unsigned-remainder : evaluateBinary bi.RemainderSigned (ty.Bits w) a b ≡ evaluateBinary bi.RemainderUnsigned (ty.Bits w) a b
-  unfolding evaluateBinary remainder
+  pub unsigned-remainder : binaryValue bi.RemainderSigned (ty.Bits w) a b ≡ binaryValue bi.RemainderUnsigned (ty.Bits w) a b
+  unfolding binaryValue remainder
   unsigned-remainder = rw (signed-narrow w 128 a under l, signed-narrow w 128 b under m) (unsigned (a % b))
 
 -- v is -n modulo 2 ^ w

@@ -1,3 +1,4 @@
+pub mod Codes
 pub mod Patterns
 pub mod Fields
 pub mod Answers

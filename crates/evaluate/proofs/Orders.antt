@@ -11,9 +11,9 @@ use lib.Dec.{ltb, leb, eqb}
 use lib.IntN.{ℤ, pos}
 use lib.Signed.{ltZ, leZ}
 use Rattle.word.specs.Value.{signed}
+use Rattle.word.specs.Option.{fromBool}
 use Rattle.word.proofs.Integer.{lt-or-ge}
 use Rattle.word.proofs.Orders.{le-not-less}
-use Rattle.evaluate.specs.Evaluate.{fromBool}
 use Rattle.evaluate.specs.SmtLib.{msb, ordered, bvslt, bvsle}
 use Rattle.evaluate.proofs.Fields.{by-tops, signed-narrow}
 

@@ -10,9 +10,10 @@ use lib.Dec.{ltb}
 use lib.IntN.{ℤ, pos, negsuc}
 use lib.Pow.{pow-mono, pow-add, high-ones}
 use lib.Signed.{mag, shrZ}
-use Rattle.word.specs.Value.{only, residue, signed}
+use Rattle.word.specs.Value.{residue, signed}
+use Rattle.word.specs.Option.{only, orZero}
 use Rattle.word.proofs.Integer.{residue-pos, residue-negsuc, signed-mag, lt-or-ge}
-use Rattle.evaluate.specs.Evaluate.{orZero, toU32, shiftedLeft, shiftedRight, arithmeticShift}
+use Rattle.evaluate.specs.Evaluate.{toU32, shiftedLeft, shiftedRight, arithmeticShift}
 use Rattle.evaluate.specs.SmtLib.{concat, bvnot, bvshl, bvlshr, bvashr, sign-extend}
 use Rattle.evaluate.proofs.Fields.{by-top, extended-field}
 

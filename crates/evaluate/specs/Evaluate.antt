@@ -1,11 +1,12 @@
 -- The evaluators: what each operator gives on 128-bit patterns, as native.rs composes it from Rust's operations.
 use mathlib.Core.Bool.{Bool, true, false, cond, not}
-use mathlib.Core.Option.{Option, none, some}
+use mathlib.Core.Option.{Option, some}
 use Prim.Native.Nat.{ℕ, min, _+_, _-_, _*_, _/_, _%_, _^_}
 use lib.Bits.{bitAnd, bitOr, bitXor}
 use lib.Dec.{eqb, ltb, leb}
 use lib.IntN.{ℤ}
 use lib.Signed.{ltZ, leZ}
+use Rattle.word.specs.Option.{mapped, orZero, fromBool}
 use Rattle.range.specs.declared.ScalarType.{ScalarType}
 use Rattle.range.specs.declared.ScalarType.the-variants as ty
 use Rattle.evaluate.specs.declared.Unary.{Unary}
@@ -14,21 +15,6 @@ use Rattle.evaluate.specs.declared.Binary.{Binary}
 use Rattle.evaluate.specs.declared.Binary.the-variants as bi
 use Rattle.evaluate.specs.U128 as u128
 use Rattle.evaluate.specs.I128 as i128
-
--- 1 for true and 0 for false
-abbrev pub fromBool : Bool → ℕ
-fromBool true = 1
-fromBool false = 0
-
--- a function of an answer that is there
-abbrev pub mapped : {A B : Type 0} → (A → B) → Option A → Option B
-mapped f none = none
-mapped f (some a) = some (f a)
-
--- an answer, or 0
-abbrev pub orZero : Option ℕ → ℕ
-orZero none = 0
-orZero (some n) = n
 
 -- ---- unary
 
@@ -49,20 +35,26 @@ abbrev pub trailingIn : ℕ → ℕ → ℕ
 trailingIn w v = min (u128.trailing-zeros (v % 2 ^ w)) w
 
 -- what a unary operator gives; `v % 2 ^ w` is Rust's `v & mask(w)`
-unfoldable pub evaluateUnary : Unary → ℕ → Option ℕ
-evaluateUnary un.BoolNot v = some (fromBool (eqb v 0))
-evaluateUnary un.BitNot v = some (u128.not v)
-evaluateUnary un.Negate v = mapped i128.as-u128 (i128.checked-neg (u128.as-i128 v))
-evaluateUnary (un.Truncate w) v = some (v % 2 ^ w)
-evaluateUnary (un.SignExtend w) v = some (signExtended w v)
-evaluateUnary (un.LeadingZeros w) v = some (leadingIn w v)
-evaluateUnary (un.TrailingZeros w) v = some (trailingIn w v)
+unfoldable pub unaryValue : Unary → ℕ → Option ℕ
+unaryValue un.BoolNot v = some (fromBool (eqb v 0))
+unaryValue un.BitNot v = some (u128.not v)
+unaryValue un.Negate v = mapped i128.as-u128 (i128.checked-neg (u128.as-i128 v))
+unaryValue (un.Truncate w) v = some (v % 2 ^ w)
+unaryValue (un.SignExtend w) v = some (signExtended w v)
+unaryValue (un.LeadingZeros w) v = some (leadingIn w v)
+unaryValue (un.TrailingZeros w) v = some (trailingIn w v)
 
 -- ---- binary
 
 -- a signed operation on patterns
 abbrev pub signedly : (ℤ → ℤ → Option ℤ) → ℕ → ℕ → Option ℕ
 signedly f a b = mapped i128.as-u128 (f (u128.as-i128 a) (u128.as-i128 b))
+
+-- is it Integer?
+abbrev pub isInteger : ScalarType → Bool
+isInteger ty.Bool = false
+isInteger (ty.Bits w) = false
+isInteger ty.Integer = true
 
 -- one answer for Integer, another for Bool and Bits
 abbrev pub byType : ScalarType → Option ℕ → Option ℕ → Option ℕ
@@ -93,26 +85,26 @@ abbrev pub arithmeticShift : ℕ → ℕ → ℕ → ℕ
 arithmeticShift w a b = cond (eqb w 0) 0 (i128.as-u128 (i128.shr (extended w a) (min b (w - 1))))
 
 -- what a binary operator gives before it is reduced to its type
-abbrev pub binaryValue : Binary → ScalarType → ℕ → ℕ → Option ℕ
-binaryValue bi.Add t a b = byType t (signedly i128.checked-add a b) (some (u128.wrapping-add a b))
-binaryValue bi.Sub t a b = byType t (signedly i128.checked-sub a b) (some (u128.wrapping-sub a b))
-binaryValue bi.Mul t a b = byType t (signedly i128.checked-mul a b) (some (u128.wrapping-mul a b))
-binaryValue bi.And t a b = some (bitAnd a b)
-binaryValue bi.Or t a b = some (bitOr a b)
-binaryValue bi.Xor t a b = some (bitXor a b)
-binaryValue bi.ShiftLeft t a b = some (shiftedLeft a b)
-binaryValue bi.ShiftRight t a b = some (shiftedRight a b)
-binaryValue bi.ArithmeticShiftRight t a b = some (arithmeticShift (shiftWidth t) a b)
-binaryValue bi.Equal t a b = some (fromBool (eqb a b))
-binaryValue bi.NotEqual t a b = some (fromBool (not (eqb a b)))
-binaryValue bi.LessSigned t a b = some (fromBool (ltZ (u128.as-i128 a) (u128.as-i128 b)))
-binaryValue bi.LessUnsigned t a b = some (fromBool (ltb a b))
-binaryValue bi.LessEqualSigned t a b = some (fromBool (leZ (u128.as-i128 a) (u128.as-i128 b)))
-binaryValue bi.LessEqualUnsigned t a b = some (fromBool (leb a b))
-binaryValue bi.DivideSigned t a b = signedly i128.checked-div a b
-binaryValue bi.RemainderSigned t a b = signedly i128.checked-rem a b
-binaryValue bi.DivideUnsigned t a b = u128.checked-div a b
-binaryValue bi.RemainderUnsigned t a b = u128.checked-rem a b
+abbrev pub unreduced : Binary → ScalarType → ℕ → ℕ → Option ℕ
+unreduced bi.Add t a b = byType t (signedly i128.checked-add a b) (some (u128.wrapping-add a b))
+unreduced bi.Sub t a b = byType t (signedly i128.checked-sub a b) (some (u128.wrapping-sub a b))
+unreduced bi.Mul t a b = byType t (signedly i128.checked-mul a b) (some (u128.wrapping-mul a b))
+unreduced bi.And t a b = some (bitAnd a b)
+unreduced bi.Or t a b = some (bitOr a b)
+unreduced bi.Xor t a b = some (bitXor a b)
+unreduced bi.ShiftLeft t a b = some (shiftedLeft a b)
+unreduced bi.ShiftRight t a b = some (shiftedRight a b)
+unreduced bi.ArithmeticShiftRight t a b = some (arithmeticShift (shiftWidth t) a b)
+unreduced bi.Equal t a b = some (fromBool (eqb a b))
+unreduced bi.NotEqual t a b = some (fromBool (not (eqb a b)))
+unreduced bi.LessSigned t a b = some (fromBool (ltZ (u128.as-i128 a) (u128.as-i128 b)))
+unreduced bi.LessUnsigned t a b = some (fromBool (ltb a b))
+unreduced bi.LessEqualSigned t a b = some (fromBool (leZ (u128.as-i128 a) (u128.as-i128 b)))
+unreduced bi.LessEqualUnsigned t a b = some (fromBool (leb a b))
+unreduced bi.DivideSigned t a b = signedly i128.checked-div a b
+unreduced bi.RemainderSigned t a b = signedly i128.checked-rem a b
+unreduced bi.DivideUnsigned t a b = u128.checked-div a b
+unreduced bi.RemainderUnsigned t a b = u128.checked-rem a b
 
 -- a value as one of its type: modulo 2 ^ w for Bits(w)
 abbrev pub reduced : ScalarType → ℕ → ℕ
@@ -121,8 +113,8 @@ reduced (ty.Bits w) v = v % 2 ^ w
 reduced ty.Integer v = v
 
 -- what a binary operator gives in a node of type t
-unfoldable pub evaluateBinary : Binary → ScalarType → ℕ → ℕ → Option ℕ
-evaluateBinary o t a b = mapped (reduced t) (binaryValue o t a b)
+unfoldable pub binaryValue : Binary → ScalarType → ℕ → ℕ → Option ℕ
+binaryValue o t a b = mapped (reduced t) (unreduced o t a b)
 
 -- ---- slice and concat
 

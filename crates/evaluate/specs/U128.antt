@@ -4,7 +4,8 @@ use Prim.Native.Nat.{ℕ, _+_, _-_, _*_, _/_, _%_, _^_}
 use lib.Count.{leadingZeros, trailingZeros}
 use lib.Dec.{ltb}
 use lib.IntN.{ℤ}
-use Rattle.word.specs.Value.{only, signed}
+use Rattle.word.specs.Value.{signed}
+use Rattle.word.specs.Option.{only}
 
 -- "Wrapping (modular) addition. Computes self + rhs, wrapping around at the boundary of the type."
 abbrev pub wrapping-add : ℕ → ℕ → ℕ

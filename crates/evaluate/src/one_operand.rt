@@ -1,16 +1,17 @@
 // The unary evaluator.
 ghost use mathlib.Core.Path.{_≡_};
 ghost use Rattle.word.specs.Value.{val, numberOf};
-ghost use Rattle.evaluate.specs.Evaluate.{evaluateUnary, signExtended, leadingIn, trailingIn};
-ghost use Rattle.evaluate.specs.Answer.{outcomeOf, evaluateUnaryCall};
+ghost use Rattle.evaluate.specs.Evaluate.{unaryValue, signExtended, leadingIn, trailingIn};
+ghost use Rattle.evaluate.specs.Answer.{outcomeOf, evaluateUnary};
 use crate::Evaluated;
-use crate::Refusal;
 use crate::Unary;
+use crate::code::WIDEST;
 use crate::pattern::bits_above;
 use crate::pattern::extended;
 use crate::pattern::from_bool;
 use crate::pattern::low_bits;
 use crate::pattern::pattern_of;
+use answer::Refusal;
 use word::MaybeWord;
 use word::Word;
 
@@ -49,7 +50,7 @@ fn trailing_zeros(value: Word, width: u16) -> Word
 
 // What the operator gives, with any parameter.
 pub fn unary_value(operation: Unary, value: Word) -> MaybeWord
-    ensures { λ r. ⌜ numberOf r ≡ evaluateUnary operation (val value) ⌝ }
+    ensures { λ r. ⌜ numberOf r ≡ unaryValue operation (val value) ⌝ }
 {
     match operation {
         Unary::BoolNot => MaybeWord::Some(from_bool(value.eq(Word { lo: 0, hi: 0 }))),
@@ -63,9 +64,9 @@ pub fn unary_value(operation: Unary, value: Word) -> MaybeWord
 }
 
 pub fn evaluate_unary(operation: Unary, value: Word) -> Evaluated
-    ensures { λ r. ⌜ outcomeOf r ≡ evaluateUnaryCall operation (val value) ⌝ }
+    ensures { λ r. ⌜ outcomeOf r ≡ evaluateUnary operation (val value) ⌝ }
 {
-    if 128 < operation.width() {
+    if WIDEST < operation.width() {
         return Evaluated::Refused(Refusal::Width);
     }
     let answer = unary_value(operation, value);

@@ -2,7 +2,8 @@
 ghost use mathlib.Core.Path.{_≡_};
 ghost use Prim.Native.Nat.{min, _-_, _%_, _^_};
 ghost use Rattle.word.specs.Value.{val, intOf, valueOf, numberOf};
-ghost use Rattle.evaluate.specs.Evaluate.{fromBool, mapped, extended, reduced};
+ghost use Rattle.word.specs.Option.{mapped, fromBool};
+ghost use Rattle.evaluate.specs.Evaluate.{extended, reduced};
 ghost use Rattle.evaluate.specs.I128 as i128;
 use range::ScalarType;
 use range::typed::mask;

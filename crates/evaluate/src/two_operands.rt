@@ -1,51 +1,64 @@
 // The binary evaluator.
 ghost use mathlib.Core.Path.{_≡_};
 ghost use Rattle.word.specs.Value.{val, numberOf};
-ghost use Rattle.evaluate.specs.Evaluate.{evaluateBinary, binaryValue, byType, signedly, orZero, shiftedLeft, shiftedRight, shiftWidth, arithmeticShift};
-ghost use Rattle.evaluate.specs.Answer.{outcomeOf, evaluateBinaryCall};
+ghost use Rattle.word.specs.Option.{orZero};
+ghost use Rattle.evaluate.specs.Evaluate.{binaryValue, unreduced, isInteger, byType, signedly, shiftedLeft, shiftedRight, shiftWidth, arithmeticShift};
+ghost use Rattle.evaluate.specs.Answer.{outcomeOf, evaluateBinary};
 ghost use Rattle.evaluate.specs.U128 as u128;
 ghost use Rattle.evaluate.specs.I128 as i128;
 ghost use mathlib.Core.Option.{some};
 use crate::Binary;
 use crate::Evaluated;
-use crate::Refusal;
+use crate::code::WIDEST;
 use crate::pattern::extended;
 use crate::pattern::from_bool;
 use crate::pattern::pattern_of;
 use crate::pattern::reduced;
 use crate::pattern::to_u32;
 use crate::type_width;
+use answer::Refusal;
 use range::ScalarType;
 use word::MaybeWord;
 use word::Word;
 
+// Is an operation on values of this type the signed one, which may have no answer?
+fn is_integer(ty: ScalarType) -> bool
+    ensures { λ r. ⌜ r ≡ isInteger ty ⌝ }
+{
+    match ty {
+        ScalarType::Bool => false,
+        ScalarType::Bits(_) => false,
+        ScalarType::Integer => true,
+    }
+}
+
 fn add(ty: ScalarType, a: Word, b: Word) -> MaybeWord
     ensures { λ r. ⌜ numberOf r ≡ byType ty (signedly i128.checked-add (val a) (val b)) (some (u128.wrapping-add (val a) (val b))) ⌝ }
 {
-    match ty {
-        ScalarType::Bool => MaybeWord::Some(a.wrapping_add(b)),
-        ScalarType::Bits(_) => MaybeWord::Some(a.wrapping_add(b)),
-        ScalarType::Integer => pattern_of(a.as_signed().checked_add(b.as_signed())),
+    if is_integer(ty) {
+        pattern_of(a.as_signed().checked_add(b.as_signed()))
+    } else {
+        MaybeWord::Some(a.wrapping_add(b))
     }
 }
 
 fn sub(ty: ScalarType, a: Word, b: Word) -> MaybeWord
     ensures { λ r. ⌜ numberOf r ≡ byType ty (signedly i128.checked-sub (val a) (val b)) (some (u128.wrapping-sub (val a) (val b))) ⌝ }
 {
-    match ty {
-        ScalarType::Bool => MaybeWord::Some(a.wrapping_sub(b)),
-        ScalarType::Bits(_) => MaybeWord::Some(a.wrapping_sub(b)),
-        ScalarType::Integer => pattern_of(a.as_signed().checked_sub(b.as_signed())),
+    if is_integer(ty) {
+        pattern_of(a.as_signed().checked_sub(b.as_signed()))
+    } else {
+        MaybeWord::Some(a.wrapping_sub(b))
     }
 }
 
 fn mul(ty: ScalarType, a: Word, b: Word) -> MaybeWord
     ensures { λ r. ⌜ numberOf r ≡ byType ty (signedly i128.checked-mul (val a) (val b)) (some (u128.wrapping-mul (val a) (val b))) ⌝ }
 {
-    match ty {
-        ScalarType::Bool => MaybeWord::Some(a.wrapping_mul(b)),
-        ScalarType::Bits(_) => MaybeWord::Some(a.wrapping_mul(b)),
-        ScalarType::Integer => pattern_of(a.as_signed().checked_mul(b.as_signed())),
+    if is_integer(ty) {
+        pattern_of(a.as_signed().checked_mul(b.as_signed()))
+    } else {
+        MaybeWord::Some(a.wrapping_mul(b))
     }
 }
 
@@ -97,8 +110,8 @@ fn shift_width(ty: ScalarType) -> u16
 }
 
 // What the operator gives before it is taken as a value of its type.
-fn raw_value(operation: Binary, ty: ScalarType, a: Word, b: Word) -> MaybeWord
-    ensures { λ r. ⌜ numberOf r ≡ binaryValue operation ty (val a) (val b) ⌝ }
+fn unreduced(operation: Binary, ty: ScalarType, a: Word, b: Word) -> MaybeWord
+    ensures { λ r. ⌜ numberOf r ≡ unreduced operation ty (val a) (val b) ⌝ }
 {
     match operation {
         Binary::Add => add(ty, a, b),
@@ -125,9 +138,9 @@ fn raw_value(operation: Binary, ty: ScalarType, a: Word, b: Word) -> MaybeWord
 
 // What the operator gives in a node of that type, at any width.
 pub fn binary_value(operation: Binary, ty: ScalarType, a: Word, b: Word) -> MaybeWord
-    ensures { λ r. ⌜ numberOf r ≡ evaluateBinary operation ty (val a) (val b) ⌝ }
+    ensures { λ r. ⌜ numberOf r ≡ binaryValue operation ty (val a) (val b) ⌝ }
 {
-    let answer = raw_value(operation, ty, a, b);
+    let answer = unreduced(operation, ty, a, b);
     match answer {
         MaybeWord::Some(value) => MaybeWord::Some(reduced(ty, value)),
         MaybeWord::None => MaybeWord::None,
@@ -135,9 +148,9 @@ pub fn binary_value(operation: Binary, ty: ScalarType, a: Word, b: Word) -> Mayb
 }
 
 pub fn evaluate_binary(operation: Binary, ty: ScalarType, a: Word, b: Word) -> Evaluated
-    ensures { λ r. ⌜ outcomeOf r ≡ evaluateBinaryCall operation ty (val a) (val b) ⌝ }
+    ensures { λ r. ⌜ outcomeOf r ≡ evaluateBinary operation ty (val a) (val b) ⌝ }
 {
-    if 128 < type_width(ty) {
+    if WIDEST < type_width(ty) {
         return Evaluated::Refused(Refusal::Width);
     }
     let answer = binary_value(operation, ty, a, b);

@@ -1,19 +1,25 @@
-// The answer to a vector: an operator's code evaluates it; from 64 on the range of its node is asked, and from 128 on a function of ranges.
+// The answer to a vector: an operator's code evaluates it; past those the range of its node is asked, and then a function of ranges.
 use crate::operators::MaybeBinary;
 use crate::operators::MaybeType;
 use crate::operators::MaybeUnary;
-use crate::operators::binary_of;
+use crate::operators::binary_named;
 use crate::operators::type_of;
-use crate::operators::unary_of;
+use crate::operators::unary_named;
 use crate::rules::function_answer;
 use crate::rules::rule_answer;
 use evaluate::Evaluated;
+use evaluate::code::BINARY;
 use evaluate::one_operand::evaluate_unary;
 use evaluate::two_operands::evaluate_binary;
 use range::MaybeRange;
 use range::Range;
 use range::ScalarType;
 use word::Word;
+
+// From here on a vector asks for the range of an operator's node, its code above this.
+const RULES: u64 = 64;
+// From here on for a function of ranges.
+const FUNCTIONS: u64 = 128;
 
 // A pattern of 128 bits, a range, a refusal by its number, or Rust's None. What no vector asks is malformed.
 pub(crate) enum Answer {
@@ -63,7 +69,7 @@ fn of_evaluated(r: Evaluated) -> Answer {
 }
 
 fn unary_answer(code: u64, width: u16, value: Word) -> Answer {
-    let found = unary_of(code, width);
+    let found = unary_named(code, width);
     match found {
         MaybeUnary::Some(operation) => of_evaluated(evaluate_unary(operation, value)),
         MaybeUnary::None => Answer::Malformed,
@@ -71,7 +77,7 @@ fn unary_answer(code: u64, width: u16, value: Word) -> Answer {
 }
 
 fn binary_answer(code: u64, ty: ScalarType, a: Word, b: Word) -> Answer {
-    let found = binary_of(code);
+    let found = binary_named(code);
     match found {
         MaybeBinary::Some(operation) => of_evaluated(evaluate_binary(operation, ty, a, b)),
         MaybeBinary::None => Answer::Malformed,
@@ -102,17 +108,17 @@ pub(crate) fn answer_of(head: Head, operands: Operands) -> Answer {
     let MaybeType::Some(ty) = found else {
         return Answer::Malformed;
     };
-    if code < 20 {
+    if code < BINARY {
         return unary_answer(code, head.width, operands.a);
     }
-    if code < 64 {
+    if code < RULES {
         return binary_answer(code, ty, operands.a, operands.b);
     }
     let a = first_range(operands);
     let b = second_range(operands);
-    if code < 128 {
-        rule_answer(code - 64, ty, a, b)
+    if code < FUNCTIONS {
+        rule_answer(code - RULES, ty, a, b)
     } else {
-        function_answer(code - 128, ty, a, b)
+        function_answer(code - FUNCTIONS, ty, a, b)
     }
 }

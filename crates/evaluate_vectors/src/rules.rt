@@ -2,6 +2,8 @@
 use crate::answers::Answer;
 use crate::answers::of_bool;
 use crate::answers::of_maybe_range;
+use evaluate::Binary;
+use evaluate::Unary;
 use range::MaybeRange;
 use range::Range;
 use range::ScalarType;
@@ -10,18 +12,39 @@ use range::typed::type_range;
 
 // The range of an Integer node.
 fn integer_rule(operator: u64, a: Range, b: Range) -> Answer {
-    match operator {
-        12 => of_maybe_range(a.negate()),
-        20 => of_maybe_range(a.add(b)),
-        21 => of_maybe_range(a.sub(b)),
-        22 => of_maybe_range(a.mul(b)),
-        23 => of_maybe_range(a.and(b)),
-        35 => of_maybe_range(a.divide_signed(b)),
-        36 => of_maybe_range(a.remainder_signed(b)),
-        37 => of_maybe_range(a.divide_unsigned(b)),
-        38 => of_maybe_range(a.remainder_unsigned(b)),
-        _ => Answer::Malformed,
+    if operator == Unary::Negate.code() {
+        return of_maybe_range(a.negate());
     }
+    if operator == Binary::Add.code() {
+        return of_maybe_range(a.add(b));
+    }
+    if operator == Binary::Sub.code() {
+        return of_maybe_range(a.sub(b));
+    }
+    if operator == Binary::Mul.code() {
+        return of_maybe_range(a.mul(b));
+    }
+    if operator == Binary::And.code() {
+        return of_maybe_range(a.and(b));
+    }
+    division_rule(operator, a, b)
+}
+
+// The range of a division of Integers.
+fn division_rule(operator: u64, a: Range, b: Range) -> Answer {
+    if operator == Binary::DivideSigned.code() {
+        return of_maybe_range(a.divide_signed(b));
+    }
+    if operator == Binary::RemainderSigned.code() {
+        return of_maybe_range(a.remainder_signed(b));
+    }
+    if operator == Binary::DivideUnsigned.code() {
+        return of_maybe_range(a.divide_unsigned(b));
+    }
+    if operator == Binary::RemainderUnsigned.code() {
+        return of_maybe_range(a.remainder_unsigned(b));
+    }
+    Answer::Malformed
 }
 
 // The rule's range where it lies inside Bits(width), else the type's.
@@ -39,16 +62,28 @@ fn in_bits(rule: MaybeRange, width: u16) -> Answer {
 
 // The range of a Bits node, and of an Integer that is sign-extended from Bits.
 fn bits_rule(operator: u64, width: u16, a: Range, b: Range) -> Answer {
-    match operator {
-        14 => of_maybe_range(Range::sign_extended(width)),
-        20 => in_bits(a.add(b), width),
-        21 => in_bits(a.sub(b), width),
-        22 => in_bits(a.mul(b), width),
-        23 => in_bits(a.and(b), width),
-        26 => in_bits(a.shift_left(b), width),
-        27 => in_bits(a.shift_right(b), width),
-        _ => Answer::Malformed,
+    if operator == Unary::SignExtend(width).code() {
+        return of_maybe_range(Range::sign_extended(width));
     }
+    if operator == Binary::Add.code() {
+        return in_bits(a.add(b), width);
+    }
+    if operator == Binary::Sub.code() {
+        return in_bits(a.sub(b), width);
+    }
+    if operator == Binary::Mul.code() {
+        return in_bits(a.mul(b), width);
+    }
+    if operator == Binary::And.code() {
+        return in_bits(a.and(b), width);
+    }
+    if operator == Binary::ShiftLeft.code() {
+        return in_bits(a.shift_left(b), width);
+    }
+    if operator == Binary::ShiftRight.code() {
+        return in_bits(a.shift_right(b), width);
+    }
+    Answer::Malformed
 }
 
 // The range of a node with that operator.

@@ -1,2 +1,3 @@
+pub mod Codes
 pub mod Export
-pub mod Guard
+pub mod Reading

@@ -1,4 +1,4 @@
--- The sets of operators that the folds and the typing table ask for.
+-- The sets of operators that the folds, the guards and the typing table ask for.
 use mathlib.Core.List.{List, [], _∷_}
 use Rattle.evaluate.specs.declared.Binary.{Binary}
 use Rattle.evaluate.specs.declared.Binary.the-variants as bi
@@ -10,6 +10,18 @@ bitwise = bi.And ∷ bi.Or ∷ bi.Xor ∷ []
 -- Equal and NotEqual
 abbrev pub equalities : List Binary
 equalities = bi.Equal ∷ bi.NotEqual ∷ []
+
+-- Add and Sub
+abbrev pub sums : List Binary
+sums = bi.Add ∷ bi.Sub ∷ []
+
+-- LessSigned and LessUnsigned
+abbrev pub strictOrders : List Binary
+strictOrders = bi.LessSigned ∷ bi.LessUnsigned ∷ []
+
+-- LessUnsigned and LessEqualUnsigned
+abbrev pub unsignedOrders : List Binary
+unsignedOrders = bi.LessUnsigned ∷ bi.LessEqualUnsigned ∷ []
 
 -- the comparisons
 abbrev pub comparisons : List Binary

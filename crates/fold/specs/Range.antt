@@ -1,19 +1,22 @@
 -- The range of a new node by its operands' ranges, and comparisons that ranges decide.
-use mathlib.Core.Bool.{Bool, true, false, cond, not}
+use mathlib.Core.Bool.{Bool, true, false, cond, not, _&&_, _||_}
+use mathlib.Core.List.{List}
 use mathlib.Core.Option.{Option, none, some}
 use Prim.Native.Nat.{ℕ}
 use lib.Signed.{ltZ, leZ}
-use Rattle.word.specs.Value.{provided, eqZ}
-use Rattle.range.specs.Interval.{Interval, both, one, sameInterval, nonnegative, typeInterval, filtered, signExtended, addInterval, subInterval, negInterval, mulInterval, quotInterval, remInterval, andInterval, udivInterval, uremInterval, shlInterval, shrInterval}
+use Rattle.word.specs.Value.{eqZ}
+use Rattle.word.specs.Option.{provided, mapped, given, bothGiven, orElse}
+use Rattle.range.specs.Interval.{Interval, sameInterval, nonnegative, typeInterval, filtered, signExtended, addInterval, subInterval, negInterval, mulInterval, quotInterval, remInterval, andInterval, udivInterval, uremInterval, shlInterval, shrInterval}
 use Rattle.range.specs.declared.ScalarType.{ScalarType}
 use Rattle.range.specs.declared.ScalarType.the-variants as ty
-use Rattle.evaluate.specs.Evaluate.{mapped}
 use Rattle.evaluate.specs.declared.Unary.{Unary}
 use Rattle.evaluate.specs.declared.Unary.the-variants as un
 use Rattle.evaluate.specs.declared.Binary.{Binary}
 use Rattle.evaluate.specs.declared.Binary.the-variants as bi
-use Rattle.graph.specs.Insert.{orElse}
-use Rattle.fold.specs.Shape.{given, sameBinary}
+use Rattle.graph.specs.Node as node
+use Rattle.graph.specs.Node.{Op, typeAt, rangeAt}
+use Rattle.graph.specs.Insert.{constantInterval}
+use Rattle.fold.specs.Shape.{sameBinary}
 use Rattle.fold.specs.declared.Derived as declared
 use Rattle.fold.specs.declared.Derived.the-variants as derived
 use Rattle.fold.specs.declared.MaybeBool as declared-bool
@@ -29,12 +32,6 @@ derivedOf derived.None = none
 abbrev pub truthOf : declared-bool.MaybeBool → Option Bool
 truthOf (truth.Some b) = some b
 truthOf truth.None = none
-
--- what follows from two answers that are there
-abbrev pub bothGiven : {A B C : Type 0} → Option A → Option B → (A → B → Option C) → Option C
-bothGiven none b f = none
-bothGiven (some a) none f = none
-bothGiven (some a) (some b) f = f a b
 
 -- ---- unary nodes
 
@@ -97,16 +94,42 @@ binaryRange ty.Bool o r s = some (typeInterval ty.Bool)
 binaryRange (ty.Bits w) o r s = some (bitsRange w o r s)
 binaryRange ty.Integer o r s = mapped some (bothGiven r s (integerRule o))
 
+-- ---- any node
+
+-- what a node's range hangs on of an operand
+pub record Ranged : Type 0 where
+  pub type : ScalarType
+  pub range : Option Interval
+
+-- an operand in the graph
+abbrev pub rangedAt : List ℕ → ℕ → Ranged
+rangedAt g n = record { type = typeAt g n; range = rangeAt g n }
+
+-- an operand of which nothing is told
+abbrev pub untold : ℕ → Ranged
+untold n = record { type = ty.Integer; range = none }
+
+-- the range of a stored node, none where the builder answers None; an Input's may be given by its call, a Refine's is its source's or given by an assume
+abbrev pub storedRange : ScalarType → Op → (ℕ → Ranged) → Option (Option Interval)
+storedRange t (node.constant c) at = some (constantInterval t c)
+storedRange t (node.input i) at = some (typeInterval t)
+storedRange t (node.refine i) at = some (at i .range)
+storedRange t (node.effect i) at = some (typeInterval t)
+storedRange t (node.slice i o w) at = some (typeInterval t)
+storedRange t (node.concat i j w) at = some (typeInterval t)
+storedRange t (node.unary u i) at = unaryRange t u (at i .range)
+storedRange t (node.binary b i j) at = binaryRange t b (at i .range) (at j .range)
+
 -- ---- comparisons (native.rs 409 to 437)
 
 -- is no number in both?
 abbrev pub apart : Interval → Interval → Bool
-apart a b = one (ltZ (a .high) (b .low)) (ltZ (b .high) (a .low))
+apart a b = ltZ (a .high) (b .low) || ltZ (b .high) (a .low)
 
 -- equal where both are one number, different where they are apart
 abbrev pub equalRanges : Interval → Interval → Option Bool
 equalRanges a b =
-    cond (both (eqZ (a .low) (a .high)) (sameInterval a b)) (some true)
+    cond (eqZ (a .low) (a .high) && sameInterval a b) (some true)
     (cond (apart a b) (some false) none)
 
 -- less where a ends below b, not less where a starts at b's end or above
@@ -119,7 +142,7 @@ lessEqualRanges a b = cond (leZ (a .high) (b .low)) (some true) (cond (ltZ (b .h
 
 -- are both not negative, so that unsigned and signed order are one?
 abbrev pub unsignedToo : Interval → Interval → Bool
-unsignedToo a b = both (nonnegative a) (nonnegative b)
+unsignedToo a b = nonnegative a && nonnegative b
 
 -- what the ranges of its operands say of a comparison
 unfoldable pub comparison : Binary → Interval → Interval → Option Bool

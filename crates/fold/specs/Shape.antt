@@ -1,10 +1,10 @@
 -- What a builder reads off nodes: their types, ranges and constants, and the shapes that a fold looks for.
-use mathlib.Core.Bool.{Bool, true, false}
+use mathlib.Core.Bool.{Bool, true, false, _||_}
 use mathlib.Core.List.{List, [], _∷_}
 use mathlib.Core.Option.{Option, none, some}
 use Prim.Native.Nat.{ℕ, zero, suc, min, _-_, _^_}
 use lib.Dec.{eqb, leb}
-use Rattle.range.specs.Interval.{Interval, one, nonnegative, insideBits}
+use Rattle.range.specs.Interval.{Interval, nonnegative, insideBits}
 use Rattle.range.specs.declared.ScalarType.{ScalarType}
 use Rattle.range.specs.declared.ScalarType.the-variants as ty
 use Rattle.evaluate.specs.Operator.{binaryCode}
@@ -14,16 +14,12 @@ use Rattle.graph.specs.Node as node
 use Rattle.graph.specs.Node.{Op, operationAt}
 use Rattle.graph.specs.Insert.{literal}
 use Rattle.word.specs.Value.{val}
-use Rattle.fold.specs.declared.Chain as declared
-use Rattle.fold.specs.declared.MaybeChain as declared-chain
-use Rattle.fold.specs.declared.MaybeChain.the-variants as chains
+use Rattle.word.specs.Option.{mapped, given}
+use Rattle.fold.specs.declared.ByConstant as declared
+use Rattle.fold.specs.declared.MaybeByConstant as declared-maybe
+use Rattle.fold.specs.declared.MaybeByConstant.the-variants as maybe
 use Rattle.fold.specs.declared.MaybeId as declared-id
 use Rattle.fold.specs.declared.MaybeId.the-variants as ids
-
--- what follows from an answer that is there, or else
-abbrev pub given : {A B : Type 0} → Option A → (A → B) → B → B
-given none f b = b
-given (some a) f b = f a
 
 -- are two types equal?
 abbrev pub sameType : ScalarType → ScalarType → Bool
@@ -50,61 +46,53 @@ sameBinary a b = eqb (binaryCode a) (binaryCode b)
 -- is it one of these operators?
 abbrev pub isAny : List Binary → Binary → Bool
 isAny [] o = false
-isAny (a ∷ rest) o = one (sameBinary o a) (isAny rest o)
+isAny (a ∷ rest) o = sameBinary o a || isAny rest o
 
 -- is there a range, and is it not negative?
 abbrev pub notNegative : Option Interval → Bool
-notNegative none = false
-notNegative (some a) = nonnegative a
+notNegative r = given r nonnegative false
 
 -- is there a range, and does it lie in Bits(w)?
 abbrev pub fits : ℕ → Option Interval → Bool
-fits w none = false
-fits w (some a) = insideBits w a
+fits w r = given r (insideBits w) false
 
 -- the largest number of w bits
 abbrev pub mask : ℕ → ℕ
 mask w = 2 ^ min w 128 - 1
 
--- is it a constant?
-abbrev pub isSome : Option ℕ → Bool
-isSome none = false
-isSome (some n) = true
-
 -- a binary operation whose right operand is a constant
-pub record Chain : Type 0 where
+pub record ByConstant : Type 0 where
   pub op : Binary
   pub base : ℕ
   pub value : ℕ
 
--- what a Chain of the code stands for
-abbrev pub oneChainOf : declared.Chain → Chain
-oneChainOf c = record { op = c .op; base = c .base .0; value = val (c .value) }
+-- what a ByConstant of the code stands for
+abbrev pub oneByConstantOf : declared.ByConstant → ByConstant
+oneByConstantOf c = record { op = c .op; base = c .base .0; value = val (c .value) }
 
--- what a MaybeChain stands for
-abbrev pub maybeChainOf : declared-chain.MaybeChain → Option Chain
-maybeChainOf (chains.Some c) = some (oneChainOf c)
-maybeChainOf chains.None = none
+-- what a MaybeByConstant stands for
+abbrev pub maybeByConstantOf : declared-maybe.MaybeByConstant → Option ByConstant
+maybeByConstantOf (maybe.Some c) = some (oneByConstantOf c)
+maybeByConstantOf maybe.None = none
 
 -- the operation with this constant, if there is one
-abbrev pub chained : Binary → ℕ → Option ℕ → Option Chain
-chained o base none = none
-chained o base (some v) = some (record { op = o; base = base; value = v })
+abbrev pub withConstant : Binary → ℕ → Option ℕ → Option ByConstant
+withConstant o base = mapped (λ v. record { op = o; base = base; value = v })
 
 -- the operation of that shape
-abbrev pub chainOf : List ℕ → Op → Option Chain
-chainOf g (node.constant c) = none
-chainOf g (node.input i) = none
-chainOf g (node.refine i) = none
-chainOf g (node.effect i) = none
-chainOf g (node.slice i o w) = none
-chainOf g (node.concat i j w) = none
-chainOf g (node.unary u i) = none
-chainOf g (node.binary o i j) = chained o i (literal g j)
+abbrev pub byConstantOf : List ℕ → Op → Option ByConstant
+byConstantOf g (node.constant c) = none
+byConstantOf g (node.input i) = none
+byConstantOf g (node.refine i) = none
+byConstantOf g (node.effect i) = none
+byConstantOf g (node.slice i o w) = none
+byConstantOf g (node.concat i j w) = none
+byConstantOf g (node.unary u i) = none
+byConstantOf g (node.binary o i j) = withConstant o i (literal g j)
 
 -- node n, if it is of that shape
-unfoldable pub chainAt : List ℕ → ℕ → Option Chain
-chainAt g n = chainOf g (operationAt g n)
+unfoldable pub byConstantAt : List ℕ → ℕ → Option ByConstant
+byConstantAt g n = byConstantOf g (operationAt g n)
 
 -- what a MaybeId stands for
 abbrev pub idOf : declared-id.MaybeId → Option ℕ

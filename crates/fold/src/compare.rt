@@ -1,10 +1,9 @@
 // Comparisons that the ranges of their operands decide.
+ghost use Rattle.word.specs.Option.{provided, mapped, bothGiven};
 ghost use mathlib.Core.Path.{_≡_};
 ghost use Rattle.range.specs.Interval.{boundsOf, intervalOf};
-ghost use Rattle.evaluate.specs.Evaluate.{mapped};
-ghost use Rattle.word.specs.Value.{provided};
 ghost use mathlib.Core.Bool.{not};
-ghost use Rattle.fold.specs.Range.{truthOf, apart, equalRanges, lessRanges, lessEqualRanges, unsignedToo, comparison, bothGiven};
+ghost use Rattle.fold.specs.Range.{truthOf, apart, equalRanges, lessRanges, lessEqualRanges, unsignedToo, comparison};
 use crate::MaybeBool;
 use crate::operator::same_binary;
 use evaluate::Binary;
@@ -68,7 +67,7 @@ fn less_equal_ranges(a: Range, b: Range) -> MaybeBool
 }
 
 // Are both not negative, so that unsigned and signed order are one?
-fn unsigned_too(a: Range, b: Range) -> bool
+pub fn unsigned_too(a: Range, b: Range) -> bool
     ensures { λ r. ⌜ r ≡ unsignedToo (boundsOf a) (boundsOf b) ⌝ }
 {
     if a.is_nonnegative() {
@@ -78,7 +77,7 @@ fn unsigned_too(a: Range, b: Range) -> bool
     }
 }
 
-fn turned(truth: MaybeBool) -> MaybeBool
+fn negated_truth(truth: MaybeBool) -> MaybeBool
     ensures { λ r. ⌜ truthOf r ≡ mapped not (truthOf truth) ⌝ }
 {
     match truth {
@@ -100,7 +99,7 @@ fn comparison(op: Binary, a: Range, b: Range) -> MaybeBool
         return equal_ranges(a, b);
     }
     if same_binary(op, Binary::NotEqual) {
-        return turned(equal_ranges(a, b));
+        return negated_truth(equal_ranges(a, b));
     }
     if same_binary(op, Binary::LessSigned) {
         return less_ranges(a, b);

@@ -26,13 +26,13 @@ pub enum Derived {
 }
 
 // A binary operation whose right operand is a constant.
-pub struct Chain {
+pub struct ByConstant {
     pub op: Binary,
     pub base: NodeId,
     pub value: Word,
 }
 
-pub enum MaybeChain {
-    Some(Chain),
+pub enum MaybeByConstant {
+    Some(ByConstant),
     None,
 }

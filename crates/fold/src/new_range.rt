@@ -1,7 +1,8 @@
 // The range of a new node by its type, its operator and its operands' ranges.
+ghost use Rattle.word.specs.Option.{bothGiven};
 ghost use mathlib.Core.Path.{_≡_};
 ghost use Rattle.range.specs.Interval.{boundsOf, intervalOf};
-ghost use Rattle.fold.specs.Range.{derivedOf, bothGiven, extendedRange, negatedRange, bitsRange, unaryRange, integerRule, bitsRule, heldTo, binaryRange};
+ghost use Rattle.fold.specs.Range.{derivedOf, extendedRange, negatedRange, bitsRange, unaryRange, integerRule, bitsRule, heldTo, binaryRange};
 use crate::Derived;
 use crate::operator::same_binary;
 use evaluate::Binary;

@@ -1,7 +1,8 @@
-// The sets of operators that the folds and the typing table ask for. An operator that a set does not name is not in it.
+// The sets of operators that the folds, the guards and the typing table ask for. An operator that a set does not name is not in it.
 ghost use mathlib.Core.Path.{_≡_};
+ghost use mathlib.Core.List.{[], _∷_};
 ghost use Rattle.fold.specs.Shape.{sameBinary, isAny};
-ghost use Rattle.fold.specs.Operator.{bitwise, equalities, comparisons, shifts, anyShift, commutative, modularOps, zeroKeeps, zeroMakesZero, keptTwice, zeroTwice, trueTwice, falseTwice};
+ghost use Rattle.fold.specs.Operator.{bitwise, equalities, sums, strictOrders, unsignedOrders, comparisons, shifts, anyShift, commutative, modularOps, zeroKeeps, zeroMakesZero, keptTwice, zeroTwice, trueTwice, falseTwice};
 use evaluate::Binary;
 
 pub fn same_binary(a: Binary, b: Binary) -> bool
@@ -10,33 +11,60 @@ pub fn same_binary(a: Binary, b: Binary) -> bool
     a.code() == b.code()
 }
 
+fn is_one_of_two(op: Binary, a: Binary, b: Binary) -> bool
+    ensures { λ r. ⌜ r ≡ isAny (a ∷ b ∷ []) op ⌝ }
+{
+    if same_binary(op, a) {
+        return true;
+    }
+    if same_binary(op, b) {
+        return true;
+    }
+    false
+}
+
+fn is_one_of_three(op: Binary, a: Binary, b: Binary, c: Binary) -> bool
+    ensures { λ r. ⌜ r ≡ isAny (a ∷ b ∷ c ∷ []) op ⌝ }
+{
+    if same_binary(op, a) {
+        return true;
+    }
+    is_one_of_two(op, b, c)
+}
+
 // And, Or and Xor.
 pub fn is_bitwise(op: Binary) -> bool
     ensures { λ r. ⌜ r ≡ isAny bitwise op ⌝ }
 {
-    if same_binary(op, Binary::And) {
-        return true;
-    }
-    if same_binary(op, Binary::Or) {
-        return true;
-    }
-    if same_binary(op, Binary::Xor) {
-        return true;
-    }
-    false
+    is_one_of_three(op, Binary::And, Binary::Or, Binary::Xor)
 }
 
 // Equal and NotEqual.
 pub fn is_equality(op: Binary) -> bool
     ensures { λ r. ⌜ r ≡ isAny equalities op ⌝ }
 {
-    if same_binary(op, Binary::Equal) {
-        return true;
-    }
-    if same_binary(op, Binary::NotEqual) {
-        return true;
-    }
-    false
+    is_one_of_two(op, Binary::Equal, Binary::NotEqual)
+}
+
+// Add and Sub.
+pub fn is_sum(op: Binary) -> bool
+    ensures { λ r. ⌜ r ≡ isAny sums op ⌝ }
+{
+    is_one_of_two(op, Binary::Add, Binary::Sub)
+}
+
+// LessSigned and LessUnsigned.
+pub fn is_strict_order(op: Binary) -> bool
+    ensures { λ r. ⌜ r ≡ isAny strictOrders op ⌝ }
+{
+    is_one_of_two(op, Binary::LessSigned, Binary::LessUnsigned)
+}
+
+// LessUnsigned and LessEqualUnsigned.
+pub fn is_unsigned_order(op: Binary) -> bool
+    ensures { λ r. ⌜ r ≡ isAny unsignedOrders op ⌝ }
+{
+    is_one_of_two(op, Binary::LessUnsigned, Binary::LessEqualUnsigned)
 }
 
 // The comparisons.
@@ -62,29 +90,19 @@ pub fn is_comparison(op: Binary) -> bool
 pub fn is_folded_shift(op: Binary) -> bool
     ensures { λ r. ⌜ r ≡ isAny shifts op ⌝ }
 {
-    if same_binary(op, Binary::ShiftLeft) {
-        return true;
-    }
-    if same_binary(op, Binary::ShiftRight) {
-        return true;
-    }
-    false
+    is_one_of_two(op, Binary::ShiftLeft, Binary::ShiftRight)
 }
 
 // All shifts.
 pub fn is_shift(op: Binary) -> bool
     ensures { λ r. ⌜ r ≡ isAny anyShift op ⌝ }
 {
-    if same_binary(op, Binary::ShiftLeft) {
-        return true;
-    }
-    if same_binary(op, Binary::ShiftRight) {
-        return true;
-    }
-    if same_binary(op, Binary::ArithmeticShiftRight) {
-        return true;
-    }
-    false
+    is_one_of_three(
+        op,
+        Binary::ShiftLeft,
+        Binary::ShiftRight,
+        Binary::ArithmeticShiftRight,
+    )
 }
 
 // The operators whose operands may change places.
@@ -148,69 +166,43 @@ pub fn is_kept_by_zero(op: Binary) -> bool
 pub fn is_zero_by_zero(op: Binary) -> bool
     ensures { λ r. ⌜ r ≡ isAny zeroMakesZero op ⌝ }
 {
-    if same_binary(op, Binary::And) {
-        return true;
-    }
-    if same_binary(op, Binary::Mul) {
-        return true;
-    }
-    false
+    is_one_of_two(op, Binary::And, Binary::Mul)
 }
 
 // One value with itself is that value.
 pub fn is_kept_twice(op: Binary) -> bool
     ensures { λ r. ⌜ r ≡ isAny keptTwice op ⌝ }
 {
-    if same_binary(op, Binary::And) {
-        return true;
-    }
-    if same_binary(op, Binary::Or) {
-        return true;
-    }
-    false
+    is_one_of_two(op, Binary::And, Binary::Or)
 }
 
 // One value with itself is 0.
 pub fn is_zero_twice(op: Binary) -> bool
     ensures { λ r. ⌜ r ≡ isAny zeroTwice op ⌝ }
 {
-    if same_binary(op, Binary::Sub) {
-        return true;
-    }
-    if same_binary(op, Binary::Xor) {
-        return true;
-    }
-    false
+    is_one_of_two(op, Binary::Sub, Binary::Xor)
 }
 
 // One value compared with itself is true.
 pub fn is_true_twice(op: Binary) -> bool
     ensures { λ r. ⌜ r ≡ isAny trueTwice op ⌝ }
 {
-    if same_binary(op, Binary::Equal) {
-        return true;
-    }
-    if same_binary(op, Binary::LessEqualSigned) {
-        return true;
-    }
-    if same_binary(op, Binary::LessEqualUnsigned) {
-        return true;
-    }
-    false
+    is_one_of_three(
+        op,
+        Binary::Equal,
+        Binary::LessEqualSigned,
+        Binary::LessEqualUnsigned,
+    )
 }
 
 // One value compared with itself is false.
 pub fn is_false_twice(op: Binary) -> bool
     ensures { λ r. ⌜ r ≡ isAny falseTwice op ⌝ }
 {
-    if same_binary(op, Binary::NotEqual) {
-        return true;
-    }
-    if same_binary(op, Binary::LessSigned) {
-        return true;
-    }
-    if same_binary(op, Binary::LessUnsigned) {
-        return true;
-    }
-    false
+    is_one_of_three(
+        op,
+        Binary::NotEqual,
+        Binary::LessSigned,
+        Binary::LessUnsigned,
+    )
 }

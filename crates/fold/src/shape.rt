@@ -2,12 +2,13 @@
 ghost use mathlib.Core.Path.{_≡_};
 ghost use lib.ListN.{length};
 ghost use Rattle.word.specs.Value.{numberOf};
+ghost use Rattle.word.specs.Option.{isSome};
 ghost use Rattle.range.specs.Interval.{intervalOf};
 ghost use Rattle.graph.specs.Layout.{REGION};
 ghost use Rattle.graph.specs.Node.{opOf};
-ghost use Rattle.fold.specs.Shape.{sameType, narrowType, notNegative, fits, isSome, chained, maybeChainOf, chainAt, idOf, refinedOf, refinedAt, origin};
-use crate::Chain;
-use crate::MaybeChain;
+ghost use Rattle.fold.specs.Shape.{sameType, narrowType, notNegative, fits, withConstant, maybeByConstantOf, byConstantAt, idOf, refinedOf, refinedAt, origin};
+use crate::ByConstant;
+use crate::MaybeByConstant;
 use crate::MaybeId;
 use evaluate::Binary;
 use graph::NodeId;
@@ -80,42 +81,42 @@ pub fn is_some(value: MaybeWord) -> bool
     }
 }
 
-fn chained(op: Binary, base: NodeId, value: MaybeWord) -> MaybeChain
-    ensures { λ r. ⌜ maybeChainOf r ≡ chained op (base .0) (numberOf value) ⌝ }
+fn with_constant(op: Binary, base: NodeId, value: MaybeWord) -> MaybeByConstant
+    ensures { λ r. ⌜ maybeByConstantOf r ≡ withConstant op (base .0) (numberOf value) ⌝ }
 {
     match value {
-        MaybeWord::Some(constant) => MaybeChain::Some(Chain {
+        MaybeWord::Some(constant) => MaybeByConstant::Some(ByConstant {
             op: op,
             base: base,
             value: constant,
         }),
-        MaybeWord::None => MaybeChain::None,
+        MaybeWord::None => MaybeByConstant::None,
     }
 }
 
 // The node, if it is a binary operation whose right operand is a constant.
-pub fn chain_at(g: &[u64], id: NodeId) -> MaybeChain
+pub fn by_constant_at(g: &[u64], id: NodeId) -> MaybeByConstant
     requires { ⌜ length (now g) ≡ REGION ⌝ }
-    ensures { λ r. ⌜ maybeChainOf r ≡ chainAt (now (g .entry)) (id .0) ⌝ }
+    ensures { λ r. ⌜ maybeByConstantOf r ≡ byConstantAt (now (g .entry)) (id .0) ⌝ }
 {
     let operation = operation_at(g, id);
     match operation {
-        Operation::Constant(_) => MaybeChain::None,
-        Operation::Input(_) => MaybeChain::None,
-        Operation::Refine(_) => MaybeChain::None,
-        Operation::Effect(_) => MaybeChain::None,
+        Operation::Constant(_) => MaybeByConstant::None,
+        Operation::Input(_) => MaybeByConstant::None,
+        Operation::Refine(_) => MaybeByConstant::None,
+        Operation::Effect(_) => MaybeByConstant::None,
         Operation::Slice {
             value: _,
             offset: _,
             width: _,
-        } => MaybeChain::None,
+        } => MaybeByConstant::None,
         Operation::Concat {
             high: _,
             low: _,
             low_width: _,
-        } => MaybeChain::None,
-        Operation::Unary(_, _) => MaybeChain::None,
-        Operation::Binary(op, base, right) => chained(op, base, literal(g, right)),
+        } => MaybeByConstant::None,
+        Operation::Unary(_, _) => MaybeByConstant::None,
+        Operation::Binary(op, base, right) => with_constant(op, base, literal(g, right)),
     }
 }
 

@@ -10,7 +10,7 @@ use borrow.Author.Tests.{lt-ltb}
 use lib.ListN as list
 use lib.ListN.{getD, set, length-set}
 use lib.Seq.{getD-set-other, getD-set-same}
-use Rattle.graph.specs.Layout.{WORDS, KEY, ALIAS, LIMIT, REGION, nodeStart, wordAt, countOf}
+use Rattle.graph.specs.Layout.{TYPE, WIDTH, RANGE, MIN, MAX, OPERATION, X, Y, Z, WORDS, KEY, ALIAS, LIMIT, REGION, nodeStart, wordAt, countOf}
 use Rattle.graph.specs.Node.{pair, typeOf, rangeOf, operationOf, nodeAt, aliasAt}
 use Rattle.graph.specs.WellFormed.{isGraph}
 use Rattle.graph.specs.Alias.{aliased}
@@ -36,7 +36,7 @@ module _ {g : List ℕ} (f : Graph g) (n m : ℕ) (up : n < m) (here : m < count
   place i d = rw written (getD-set-other g (nodeStart n + ALIAS) i (m + 1) 0 d)
 
   -- the region's length stays
-  pub aliased-length : list.length (aliased g n m) ≡ REGION
+  aliased-length : list.length (aliased g n m) ≡ REGION
   aliased-length = rw written (length-set g (nodeStart n + ALIAS) (m + 1) ∙ f .length)
 
   -- the number of nodes stays
@@ -58,9 +58,9 @@ module _ {g : List ℕ} (f : Graph g) (n m : ℕ) (up : n < m) (here : m < count
   pub aliased-same-node : (k : ℕ) → nodeAt (aliased g n m) k ≡ nodeAt g k
   aliased-same-node k =
       λ i. record {
-        type = typeOf (key k 0 (omega arith) i) (key k 1 (omega arith) i);
-        range = rangeOf (key k 2 (omega arith) i) (pair (key k 3 (omega arith) i) (key k 4 (omega arith) i)) (pair (key k 5 (omega arith) i) (key k 6 (omega arith) i));
-        operation = operationOf (key k 7 (omega arith) i) (key k 8 (omega arith) i) (key k 9 (omega arith) i) (key k 10 (omega arith) i);
+        type = typeOf (key k TYPE (omega arith) i) (key k WIDTH (omega arith) i);
+        range = rangeOf (key k RANGE (omega arith) i) (pair (key k MIN (omega arith) i) (key k (MIN + 1) (omega arith) i)) (pair (key k MAX (omega arith) i) (key k (MAX + 1) (omega arith) i));
+        operation = operationOf (key k OPERATION (omega arith) i) (key k X (omega arith) i) (key k Y (omega arith) i) (key k Z (omega arith) i);
       }
 
   abbrev Above : List ℕ → ℕ → Type 0
@@ -76,12 +76,12 @@ module _ {g : List ℕ} (f : Graph g) (n m : ℕ) (up : n < m) (here : m < count
   node-at k l =
       let v = node-facts g (countOf g) k (f .node k l) in
       record {
-        type = rw (key k 0 (omega arith), key k 1 (omega arith)) (v .type);
+        type = rw (key k TYPE (omega arith), key k WIDTH (omega arith)) (v .type);
         range =
-            rw (key k 0 (omega arith), key k 1 (omega arith), key k 2 (omega arith), key k 3 (omega arith), key k 4 (omega arith), key k 5 (omega arith), key k 6 (omega arith))
+            rw (key k TYPE (omega arith), key k WIDTH (omega arith), key k RANGE (omega arith), key k MIN (omega arith), key k (MIN + 1) (omega arith), key k MAX (omega arith), key k (MAX + 1) (omega arith))
             (v .range);
         alias = alias-above k l;
-        operation = rw (key k 7 (omega arith), key k 8 (omega arith), key k 9 (omega arith), key k 10 (omega arith)) (v .operation);
+        operation = rw (key k OPERATION (omega arith), key k X (omega arith), key k Y (omega arith), key k Z (omega arith)) (v .operation);
       }
 
   -- the region is still a graph

@@ -1,6 +1,6 @@
 -- An appended node keeps question 1; and where interning found no node with its key, no two nodes have one. Assumes nothing.
 use mathlib.Core.Path.{_≡_, refl, sym, ap, _∙_, subst}
-use mathlib.Core.Bool.{Bool, true, false, cond, false≢true}
+use mathlib.Core.Bool.{Bool, true, false, cond, false≢true, _&&_}
 use mathlib.Core.List.{List}
 use mathlib.Core.Logic.{inl, inr, ⊎-elim}
 use mathlib.Core.Option.{Option, none, some}
@@ -8,24 +8,23 @@ use Prim.Native.Nat.{ℕ, zero, suc, min, _+_, _-_, _*_, _/_, _%_, _^_, _≤_, _
 use native.Mathlib.Decide.{decLt}
 use native.Mathlib.Nat.{div-add-mod', mod-lt}
 use native.Mathlib.Omega.{arith}
-use borrow.Author.Tests.{le-leb, lt-ltb, le-ltb}
-use lib.Dec.{eqb, lit<, lit≤}
+use borrow.Author.Tests.{le-leb, lt-ltb}
+use lib.Dec.{eqb, lit<}
 use lib.ListN.{length, getD, replicate, length-replicate}
 use lib.Seq.{paste, getD-set-other}
 use lib.Signed.{mag, leZ}
 use Rattle.word.specs.Value.{residue, signed}
 use Rattle.word.proofs.Integer.{signed-residue}
-use Rattle.range.specs.Interval.{Interval, both, insideType}
+use Rattle.range.specs.Interval.{Interval, insideType}
 use Rattle.range.specs.declared.ScalarType.{ScalarType}
 use Rattle.range.specs.declared.ScalarType.the-variants as ty
 use Rattle.range.proofs.Answers.{none-some, some-is}
 use Rattle.range.proofs.Sound.{tests, at-most}
-use Rattle.evaluate.specs.Operator.{unaryCode, unaryWidth, binaryCode, typeWidth}
+use Rattle.evaluate.proofs.Codes.{unary-known, binary-known, past-unary, unary-code, binary-code}
+use Rattle.evaluate.specs.Operator.{WIDEST, WIDTHS, OFFSETS, unaryCode, unaryWidth, binaryCode, typeWidth}
 use Rattle.evaluate.specs.declared.Unary.{Unary}
-use Rattle.evaluate.specs.declared.Unary.the-variants as un
 use Rattle.evaluate.specs.declared.Binary.{Binary}
-use Rattle.evaluate.specs.declared.Binary.the-variants as bi
-use Rattle.graph.specs.Layout.{FIRST, WORDS, KEY, LIMIT, REGION, nodeStart, wordAt, countOf}
+use Rattle.graph.specs.Layout.{TYPE, WIDTH, RANGE, MIN, MAX, OPERATION, X, Y, Z, ALIAS, FIRST, WORDS, KEY, LIMIT, REGION, nodeStart, wordAt, countOf}
 use Rattle.graph.specs.Node as node
 use Rattle.graph.specs.Node.{Op, Parts, pair, typeCode, rangeFlag, rangeLow, rangeHigh, opCode, opX, opY, opZ, wordsOf, typeAt, rangeAt, nodeAt, operationAt}
 use Rattle.graph.specs.WellFormed.{isType, isRange, areFields, isOperation, isGraph}
@@ -51,43 +50,11 @@ Exact g n = (k : ℕ) → k < KEY → wordAt g n k ≡ getD (wordsFor (nodeAt g 
 abbrev pub Keys : List ℕ → Type 0
 Keys g = (n m : ℕ) → n < m → m < countOf g → nodeAt g n ≡ nodeAt g m → ⊥
 
--- ---- codes
-
-pub unary-code : (u : Unary) → (10 ≤ unaryCode u) × (unaryCode u < 17)
-unary-code un.BoolNot = (lit≤ tt, lit< tt)
-unary-code un.BitNot = (lit≤ tt, lit< tt)
-unary-code un.Negate = (lit≤ tt, lit< tt)
-unary-code (un.Truncate w) = (lit≤ tt, lit< tt)
-unary-code (un.SignExtend w) = (lit≤ tt, lit< tt)
-unary-code (un.LeadingZeros w) = (lit≤ tt, lit< tt)
-unary-code (un.TrailingZeros w) = (lit≤ tt, lit< tt)
-
-pub binary-code : (b : Binary) → (20 ≤ binaryCode b) × (binaryCode b < 39)
-binary-code bi.Add = (lit≤ tt, lit< tt)
-binary-code bi.Sub = (lit≤ tt, lit< tt)
-binary-code bi.Mul = (lit≤ tt, lit< tt)
-binary-code bi.And = (lit≤ tt, lit< tt)
-binary-code bi.Or = (lit≤ tt, lit< tt)
-binary-code bi.Xor = (lit≤ tt, lit< tt)
-binary-code bi.ShiftLeft = (lit≤ tt, lit< tt)
-binary-code bi.ShiftRight = (lit≤ tt, lit< tt)
-binary-code bi.ArithmeticShiftRight = (lit≤ tt, lit< tt)
-binary-code bi.Equal = (lit≤ tt, lit< tt)
-binary-code bi.NotEqual = (lit≤ tt, lit< tt)
-binary-code bi.LessSigned = (lit≤ tt, lit< tt)
-binary-code bi.LessUnsigned = (lit≤ tt, lit< tt)
-binary-code bi.LessEqualSigned = (lit≤ tt, lit< tt)
-binary-code bi.LessEqualUnsigned = (lit≤ tt, lit< tt)
-binary-code bi.DivideSigned = (lit≤ tt, lit< tt)
-binary-code bi.RemainderSigned = (lit≤ tt, lit< tt)
-binary-code bi.DivideUnsigned = (lit≤ tt, lit< tt)
-binary-code bi.RemainderUnsigned = (lit≤ tt, lit< tt)
-
 -- ---- question 1 of the words that are written
 
-type-written : (t : ScalarType) → typeWidth t ≤ 128 → isType (typeCode t) (typeWidth t) ≡ true
+type-written : (t : ScalarType) → typeWidth t ≤ WIDEST → isType (typeCode t) (typeWidth t) ≡ true
 type-written ty.Bool l = refl
-type-written (ty.Bits w) l = le-leb w 128 l
+type-written (ty.Bits w) l = le-leb w WIDEST l
 type-written ty.Integer l = refl
 
 range-written : (t : ScalarType) (r : Option Interval) → typeWidth t < 2 ^ 16 → mag (lowEnd r) < 2 ^ 127 → mag (highEnd r) < 2 ^ 127
@@ -102,35 +69,32 @@ range-written t (some a) w l h v =
 fields-below : (x xlimit y ylimit z zlimit : ℕ) → x < xlimit → y < ylimit → z < zlimit → areFields x xlimit y ylimit z zlimit ≡ true
 fields-below x xlimit y ylimit z zlimit a b c = rw (lt-ltb x xlimit a, lt-ltb y ylimit b, lt-ltb z zlimit c)
 
-unary-written : (n : ℕ) (u : Unary) (i : ℕ) → i < n → unaryWidth u ≤ 128 → isOperation n (unaryCode u) i 0 (unaryWidth u) ≡ true
-unary-written n un.BoolNot i l w = fields-below i n 0 1 0 1 l (lit< tt) (lit< tt)
-unary-written n un.BitNot i l w = fields-below i n 0 1 0 1 l (lit< tt) (lit< tt)
-unary-written n un.Negate i l w = fields-below i n 0 1 0 1 l (lit< tt) (lit< tt)
-unary-written n (un.Truncate k) i l w = fields-below i n 0 1 k 129 l (lit< tt) (omega arith)
-unary-written n (un.SignExtend k) i l w = fields-below i n 0 1 k 129 l (lit< tt) (omega arith)
-unary-written n (un.LeadingZeros k) i l w = fields-below i n 0 1 k 129 l (lit< tt) (omega arith)
-unary-written n (un.TrailingZeros k) i l w = fields-below i n 0 1 k 129 l (lit< tt) (omega arith)
+unary-written : (n : ℕ) (u : Unary) (i : ℕ) → i < n → unaryWidth u ≤ WIDEST → isOperation n (unaryCode u) i 0 (unaryWidth u) ≡ true
+unary-written n u i l w =
+    let c = unary-code u in
+    operators n (unaryCode u) i 0 (unaryWidth u) (omega arith)
+    ∙ rw (unary-known u) (fields-below i n 0 1 (unaryWidth u) WIDTHS l (lit< tt) (omega arith))
 
-binary-written : (n code i j : ℕ) → 20 ≤ code → code < 39 → i < n → j < n → isOperation n code i j 0 ≡ true
-binary-written n code i j a b l m =
-    operators n code i j 0 (omega arith)
-    ∙ rw (le-ltb code 13 (omega arith), le-ltb code 17 (omega arith), le-ltb code 20 a, lt-ltb code 39 b) (fields-below i n j n 0 1 l m (lit< tt))
+binary-written : (n : ℕ) (b : Binary) (i j : ℕ) → i < n → j < n → isOperation n (binaryCode b) i j 0 ≡ true
+binary-written n b i j l m =
+    let c = binary-code b in
+    operators n (binaryCode b) i j 0 (omega arith)
+    ∙ rw (past-unary (binaryCode b) 0 (omega arith), binary-known b) (fields-below i n j n 0 1 l m (lit< tt))
 
-operation-written : (n : ℕ) (o : Op) → start o ≤ n → opOffset o < 128 → opZ o ≤ 128 → isOperation n (opCode o) (opX o) (opY o) (opZ o) ≡ true
+operation-written : (n : ℕ) (o : Op) → start o ≤ n → opOffset o < OFFSETS → opZ o ≤ WIDEST → isOperation n (opCode o) (opX o) (opY o) (opZ o) ≡ true
 operation-written n (node.constant c) l h w = refl
 operation-written n (node.input i) l h w = refl
 operation-written n (node.refine i) l h w = fields-below i n 0 1 0 1 (omega arith) (lit< tt) (lit< tt)
 operation-written n (node.effect i) l h w = refl
-operation-written n (node.slice i o k) l h w = fields-below i n o 128 k 129 (omega arith) h (omega arith)
-operation-written n (node.concat i j k) l h w = fields-below i n j n k 129 (omega arith) (omega arith) (omega arith)
+operation-written n (node.slice i o k) l h w = fields-below i n o OFFSETS k WIDTHS (omega arith) h (omega arith)
+operation-written n (node.concat i j k) l h w = fields-below i n j n k WIDTHS (omega arith) (omega arith) (omega arith)
 operation-written n (node.unary u i) l h w = unary-written n u i (omega arith) w
-operation-written n (node.binary b i j) l h w =
-    let c = binary-code b in binary-written n (binaryCode b) i j (c .0) (c .1) (omega arith) (omega arith)
+operation-written n (node.binary b i j) l h w = binary-written n b i j (omega arith) (omega arith)
 
 -- ---- the words of the other nodes stay
 
 module _ (g ws : List ℕ) (size : length g ≡ REGION) (all : length ws ≡ WORDS) (room : countOf g < LIMIT) where
-  pub old-word : (n k : ℕ) → (n ≡ countOf g → ⊥) → k < WORDS → wordAt (appended g ws .words) n k ≡ wordAt g n k
+  old-word : (n k : ℕ) → (n ≡ countOf g → ⊥) → k < WORDS → wordAt (appended g ws .words) n k ≡ wordAt g n k
   old-word n k d h =
       rw (appended-made g ws room)
       (getD-set-other (paste g (nodeStart (countOf g)) ws WORDS) 0 (nodeStart n + k) (countOf g + 1) 0 (λ e. omega arith)
@@ -187,8 +151,8 @@ module _ (g : List ℕ) (t : ScalarType) (r : Option Interval) (o : Op) (size : 
 
 -- ---- question 1 of what is left
 
-module _ (g : List ℕ) (t : ScalarType) (r : Option Interval) (o : Op) (f : Graph g) (room : countOf g < LIMIT) (s : Stored t r o) (width : typeWidth t ≤ 128)
-    (below : start o ≤ countOf g) (offset : opOffset o < 128) (parameter : opZ o ≤ 128) (valid : (a : Interval) → r ≡ some a → Valid t a) where
+module _ (g : List ℕ) (t : ScalarType) (r : Option Interval) (o : Op) (f : Graph g) (room : countOf g < LIMIT) (s : Stored t r o) (width : typeWidth t ≤ WIDEST)
+    (below : start o ≤ countOf g) (offset : opOffset o < OFFSETS) (parameter : opZ o ≤ WIDEST) (valid : (a : Interval) → r ≡ some a → Valid t a) where
   unfoldable grown : List ℕ
   grown = appended g (wordsOf t r o) .words
 
@@ -205,11 +169,11 @@ module _ (g : List ℕ) (t : ScalarType) (r : Option Interval) (o : Op) (f : Gra
   new-node =
       let w = appended-word g (wordsOf t r o) (f .length) (length-words t r o) room in
       record {
-        type = rw (w 0 (lit< tt), w 1 (lit< tt)) (type-written t width);
-        range = rw (w 0 (lit< tt), w 1 (lit< tt), w 2 (lit< tt), w 3 (lit< tt), w 4 (lit< tt), w 5 (lit< tt), w 6 (lit< tt))
+        type = rw (w TYPE (lit< tt), w WIDTH (lit< tt)) (type-written t width);
+        range = rw (w TYPE (lit< tt), w WIDTH (lit< tt), w RANGE (lit< tt), w MIN (lit< tt), w (MIN + 1) (lit< tt), w MAX (lit< tt), w (MAX + 1) (lit< tt))
             (range-written t r (s .width) (s .low) (s .high) valid);
-        alias = inl (w 11 (lit< tt));
-        operation = rw (w 7 (lit< tt), w 8 (lit< tt), w 9 (lit< tt), w 10 (lit< tt)) (operation-written (countOf g) o below offset parameter);
+        alias = inl (w ALIAS (lit< tt));
+        operation = rw (w OPERATION (lit< tt), w X (lit< tt), w Y (lit< tt), w Z (lit< tt)) (operation-written (countOf g) o below offset parameter);
       }
 
   old-node : (n : ℕ) → n < countOf g → Node grown (countOf grown) n
@@ -217,10 +181,10 @@ module _ (g : List ℕ) (t : ScalarType) (r : Option Interval) (o : Op) (f : Gra
       let v = node-facts g (countOf g) n (f .node n l) in
       let w : (k : ℕ) → k < WORDS → wordAt grown n k ≡ wordAt g n k = λ k h. kept-word n k (λ e. omega arith) h in
       record {
-        type = rw (w 0 (lit< tt), w 1 (lit< tt)) (v .type);
-        range = rw (w 0 (lit< tt), w 1 (lit< tt), w 2 (lit< tt), w 3 (lit< tt), w 4 (lit< tt), w 5 (lit< tt), w 6 (lit< tt)) (v .range);
-        alias = rw (w 11 (lit< tt)) (⊎-elim (λ e. inl e) (λ a. inr (a .0, omega (arith, count-grown, a .1))) (v .alias));
-        operation = rw (w 7 (lit< tt), w 8 (lit< tt), w 9 (lit< tt), w 10 (lit< tt)) (v .operation);
+        type = rw (w TYPE (lit< tt), w WIDTH (lit< tt)) (v .type);
+        range = rw (w TYPE (lit< tt), w WIDTH (lit< tt), w RANGE (lit< tt), w MIN (lit< tt), w (MIN + 1) (lit< tt), w MAX (lit< tt), w (MAX + 1) (lit< tt)) (v .range);
+        alias = rw (w ALIAS (lit< tt)) (⊎-elim (λ e. inl e) (λ a. inr (a .0, omega (arith, count-grown, a .1))) (v .alias));
+        operation = rw (w OPERATION (lit< tt), w X (lit< tt), w Y (lit< tt), w Z (lit< tt)) (v .operation);
       }
 
   -- words past the count stay zero
@@ -261,14 +225,14 @@ empty-graph =
 
 -- the range of a node of a graph is not empty and lies inside its type
 pub range-valid : {g : List ℕ} → Graph g → (n : ℕ) → n < countOf g → (a : Interval) → rangeAt g n ≡ some a → Valid (typeAt g n) a
-range-valid {g} f n l a e = by (eqb (wordAt g n 2) 0) _ (node-facts g (countOf g) n (f .node n l) .range) e
+range-valid {g} f n l a e = by (eqb (wordAt g n RANGE) 0) _ (node-facts g (countOf g) n (f .node n l) .range) e
   where
     b : Interval
-    b = record { low = signed 128 (pair (wordAt g n 3) (wordAt g n 4)); high = signed 128 (pair (wordAt g n 5) (wordAt g n 6)) }
+    b = record { low = signed 128 (pair (wordAt g n MIN) (wordAt g n (MIN + 1))); high = signed 128 (pair (wordAt g n MAX) (wordAt g n (MAX + 1))) }
 
-    by : (z x : Bool) → cond z x (both (eqb (wordAt g n 2) 1) (both (leZ (b .low) (b .high)) (insideType (typeAt g n) b))) ≡ true
+    by : (z x : Bool) → cond z x (eqb (wordAt g n RANGE) 1 && (leZ (b .low) (b .high) && insideType (typeAt g n) b)) ≡ true
         → cond z none (some b) ≡ some a → Valid (typeAt g n) a
     by true x p q = absurd (none-some q)
     by false x p q =
-        let d = tests (leZ (b .low) (b .high)) _ (tests (eqb (wordAt g n 2) 1) _ p .1) in
+        let d = tests (leZ (b .low) (b .high)) _ (tests (eqb (wordAt g n RANGE) 1) _ p .1) in
         subst (Valid (typeAt g n)) (some-is q) (record { full = at-most (b .low) (b .high) (d .0); inside = d .1 })

@@ -13,10 +13,10 @@ use lib.ListN.{getD, drop}
 use lib.Seq.{getD-drop}
 use Rattle.range.specs.declared.ScalarType.the-variants as ty
 use Rattle.range.proofs.Sound.{tests, either}
-use Rattle.evaluate.specs.Operator.{typeWidth}
+use Rattle.evaluate.specs.Operator.{BOOL, BITS, INTEGER, WIDEST, WIDTHS, OFFSETS, BINARY, isUnaryCode, isBinaryCode, typeWidth}
 use Rattle.evaluate.specs.declared.Unary.{Unary}
 use Rattle.evaluate.specs.declared.Binary.{Binary}
-use Rattle.graph.specs.Layout.{REGION, LIMIT, nodeStart, wordAt, countOf}
+use Rattle.graph.specs.Layout.{TYPE, WIDTH, RANGE, MIN, MAX, OPERATION, X, Y, Z, CONSTANT, INPUT, REFINE, EFFECT, SLICE, CONCAT, REGION, LIMIT, nodeStart, wordAt, countOf}
 use Rattle.graph.specs.Node as node
 use Rattle.graph.specs.Node.{Op, narrow, pair, typeOf, typeAt, operationOf, operationAt, aliasAt}
 use Rattle.graph.specs.Insert.{start, follow, resolve}
@@ -79,11 +79,11 @@ module _ (g : List ℕ) where
 -- ---- one node
 
 pub record Node (g : List ℕ) (count n : ℕ) : Type 0 where
-  pub type : isType (wordAt g n 0) (wordAt g n 1) ≡ true
+  pub type : isType (wordAt g n TYPE) (wordAt g n WIDTH) ≡ true
   pub range
-      : isRange (wordAt g n 0) (wordAt g n 1) (wordAt g n 2) (pair (wordAt g n 3) (wordAt g n 4)) (pair (wordAt g n 5) (wordAt g n 6)) ≡ true
+      : isRange (wordAt g n TYPE) (wordAt g n WIDTH) (wordAt g n RANGE) (pair (wordAt g n MIN) (wordAt g n (MIN + 1))) (pair (wordAt g n MAX) (wordAt g n (MAX + 1))) ≡ true
   pub alias : (aliasAt g n ≡ 0) ⊎ ((n < aliasAt g n - 1) × (aliasAt g n ≤ count))
-  pub operation : isOperation n (wordAt g n 7) (wordAt g n 8) (wordAt g n 9) (wordAt g n 10) ≡ true
+  pub operation : isOperation n (wordAt g n OPERATION) (wordAt g n X) (wordAt g n Y) (wordAt g n Z) ≡ true
 
 alias-facts : (n count alias : ℕ) → isAlias n count alias ≡ true → (alias ≡ 0) ⊎ ((n < alias - 1) × (alias ≤ count))
 alias-facts n count alias e =
@@ -99,8 +99,8 @@ facts-alias n count alias (inr f) =
 module _ (g : List ℕ) (count n : ℕ) where
   pub node-facts : isNode g count n ≡ true → Node g count n
   node-facts e =
-      let d = tests (isType (wordAt g n 0) (wordAt g n 1)) _ e in
-      let f = tests (isRange (wordAt g n 0) (wordAt g n 1) (wordAt g n 2) (pair (wordAt g n 3) (wordAt g n 4)) (pair (wordAt g n 5) (wordAt g n 6))) _ (d .1) in
+      let d = tests (isType (wordAt g n TYPE) (wordAt g n WIDTH)) _ e in
+      let f = tests (isRange (wordAt g n TYPE) (wordAt g n WIDTH) (wordAt g n RANGE) (pair (wordAt g n MIN) (wordAt g n (MIN + 1))) (pair (wordAt g n MAX) (wordAt g n (MAX + 1)))) _ (d .1) in
       let h = tests (isAlias n count (aliasAt g n)) _ (f .1) in
       record { type = d .0; range = f .0; alias = alias-facts n count (aliasAt g n) (h .0); operation = h .1 }
 
@@ -110,22 +110,22 @@ module _ (g : List ℕ) (count n : ℕ) where
 -- a type's width is a u16
 pub type-width : (code width : ℕ) → isType code width ≡ true → narrow width ≡ width
 type-width code width =
-    chosen (eqb code 0) (λ q. none)
+    chosen (eqb code BOOL) (λ q. none)
     (λ q.
-    chosen (eqb code 1) (λ q e. let h = leb-true width 128 e in omega arith)
-    (λ q. chosen (eqb code 2) (λ q. none) (λ q e. absurd (false≢true e))))
+    chosen (eqb code BITS) (λ q e. let h = leb-true width WIDEST e in omega arith)
+    (λ q. chosen (eqb code INTEGER) (λ q. none) (λ q e. absurd (false≢true e))))
   where
     none : eqb width 0 ≡ true → narrow width ≡ width
     none e = let h = eqb-true width 0 e in omega arith
 
--- and it is at most 128
-type-small : (code width : ℕ) → isType code width ≡ true → typeWidth (typeOf code width) ≤ 128
-type-small code width = by (eqb code 0) (eqb code 1)
+-- and it is at most WIDEST
+type-small : (code width : ℕ) → isType code width ≡ true → typeWidth (typeOf code width) ≤ WIDEST
+type-small code width = by (eqb code BOOL) (eqb code BITS)
   where
-    by : (s t : Bool) → cond s (eqb width 0) (cond t (leb width 128) (cond (eqb code 2) (eqb width 0) false)) ≡ true
-        → typeWidth (cond s ty.Bool (cond t (ty.Bits (narrow width)) ty.Integer)) ≤ 128
+    by : (s t : Bool) → cond s (eqb width 0) (cond t (leb width WIDEST) (cond (eqb code INTEGER) (eqb width 0) false)) ≡ true
+        → typeWidth (cond s ty.Bool (cond t (ty.Bits (narrow width)) ty.Integer)) ≤ WIDEST
     by true t e = lit≤ tt
-    by false true e = let l = leb-true width 128 e in omega arith
+    by false true e = let l = leb-true width WIDEST e in omega arith
     by false false e = lit≤ tt
 
 -- fields that pass are below their bounds
@@ -139,7 +139,7 @@ fields x xlimit y ylimit z zlimit e =
 pub record Operation (n code x y z : ℕ) : Type 0 where
   pub below : start (operationOf code x y z) ≤ n
   pub width : narrow z ≡ z
-  pub offset : code ≡ 4 → narrow y ≡ y
+  pub offset : code ≡ SLICE → narrow y ≡ y
 
 module _ (n code x y z : ℕ) where
   abbrev Held : Op → Type 0
@@ -148,44 +148,38 @@ module _ (n code x y z : ℕ) where
   no-operand : areFields 0 1 y 1 z 1 ≡ true → (0 ≤ n) × (narrow z ≡ z)
   no-operand e = let h = fields 0 1 y 1 z 1 e in (omega arith, omega arith)
 
-  one-operand : (limit : ℕ) → limit ≤ 129 → areFields x n y 1 z limit ≡ true → (x < n) × (y < n) × (z < 129)
-  one-operand limit l e = let h = fields x n y 1 z limit e in (omega arith, omega arith, omega arith)
+  one-operand : areFields x n y 1 z WIDTHS ≡ true → (x < n) × (y < n) × (z < WIDTHS)
+  one-operand e = let h = fields x n y 1 z WIDTHS e in (omega arith, omega arith, omega arith)
 
-  operator : (t : Bool) (u : Unary) (b : Binary) → (x < n) × (y < n) × (z < 129) → Held (cond t (node.unary u x) (node.binary b x y))
+  operator : (t : Bool) (u : Unary) (b : Binary) → (x < n) × (y < n) × (z < WIDTHS) → Held (cond t (node.unary u x) (node.binary b x y))
   operator true u b h = (omega arith, omega arith)
   operator false u b h = (omega arith, omega arith)
 
   held : isOperation n code x y z ≡ true → Held (operationOf code x y z)
   held =
-      picked Held (eqb code 0) (λ q e. let h = eqb-true z 0 e in (omega arith, omega arith))
+      picked Held (eqb code CONSTANT) (λ q e. let h = eqb-true z 0 e in (omega arith, omega arith))
       (λ q.
-      picked Held (eqb code 1) (λ q. no-operand)
+      picked Held (eqb code INPUT) (λ q. no-operand)
       (λ q.
-      picked Held (eqb code 2) (λ q e. let h = fields x n y 1 z 1 e in (omega arith, omega arith))
+      picked Held (eqb code REFINE) (λ q e. let h = fields x n y 1 z 1 e in (omega arith, omega arith))
       (λ q.
-      picked Held (eqb code 3) (λ q. no-operand)
+      picked Held (eqb code EFFECT) (λ q. no-operand)
       (λ q.
-      picked Held (eqb code 4) (λ q e. let h = fields x n y 128 z 129 e in (omega arith, omega arith))
+      picked Held (eqb code SLICE) (λ q e. let h = fields x n y OFFSETS z WIDTHS e in (omega arith, omega arith))
       (λ q.
-      picked Held (eqb code 5) (λ q e. let h = fields x n y n z 129 e in (omega arith, omega arith))
+      picked Held (eqb code CONCAT) (λ q e. let h = fields x n y n z WIDTHS e in (omega arith, omega arith))
       (λ q e.
-      operator (ltb code 20) _ _
-      (chosen (ltb code 10) (λ q f. absurd (false≢true f))
+      operator (ltb code BINARY) _ _
+      (chosen (isUnaryCode code z) (λ q. one-operand)
       (λ q.
-      chosen (ltb code 13) (λ q. one-operand 1 (omega arith))
-      (λ q.
-      chosen (ltb code 17) (λ q. one-operand 129 (omega arith))
-      (λ q.
-      chosen (ltb code 20) (λ q f. absurd (false≢true f))
-      (λ q.
-      chosen (ltb code 39) (λ q f. let h = fields x n y n z 1 f in (omega arith, omega arith, omega arith)) (λ q f. absurd (false≢true f)))))) e)))))))
+      chosen (isBinaryCode code) (λ q f. let h = fields x n y n z 1 f in (omega arith, omega arith, omega arith)) (λ q f. absurd (false≢true f))) e)))))))
 
-  pub operation-facts : isOperation n code x y z ≡ true → Operation n code x y z
+  operation-facts : isOperation n code x y z ≡ true → Operation n code x y z
   operation-facts e =
       record {
         below = held e .0;
         width = held e .1;
-        offset = λ q. let h = fields x n y 128 z 129 (rw q at e) in omega arith;
+        offset = λ q. let h = fields x n y OFFSETS z WIDTHS (rw q at e) in omega arith;
       }
 
 -- ---- the nodes of a graph
@@ -194,17 +188,17 @@ module _ {g : List ℕ} (f : Graph g) where
   pub alias-of : (n : ℕ) → n < countOf g → (aliasAt g n ≡ 0) ⊎ ((n < aliasAt g n - 1) × (aliasAt g n ≤ countOf g))
   alias-of n h = node-facts g (countOf g) n (f .node n h) .alias
 
-  -- a type's width is at most 128
-  pub width-of : (n : ℕ) → n < countOf g → typeWidth (typeAt g n) ≤ 128
-  width-of n h = type-small (wordAt g n 0) (wordAt g n 1) (node-facts g (countOf g) n (f .node n h) .type)
+  -- a type's width is at most WIDEST
+  pub width-of : (n : ℕ) → n < countOf g → typeWidth (typeAt g n) ≤ WIDEST
+  width-of n h = type-small (wordAt g n TYPE) (wordAt g n WIDTH) (node-facts g (countOf g) n (f .node n h) .type)
 
-  pub operation-of : (n : ℕ) → n < countOf g → Operation n (wordAt g n 7) (wordAt g n 8) (wordAt g n 9) (wordAt g n 10)
+  pub operation-of : (n : ℕ) → n < countOf g → Operation n (wordAt g n OPERATION) (wordAt g n X) (wordAt g n Y) (wordAt g n Z)
   operation-of n h = operation-facts n _ _ _ _ (node-facts g (countOf g) n (f .node n h) .operation)
 
   pub start-le : (n : ℕ) → n < countOf g → start (operationAt g n) ≤ n
   start-le n h = operation-of n h .below
 
-  pub follow-within : (k n : ℕ) → n < countOf g → (n ≤ follow g k n) × (follow g k n < countOf g)
+  follow-within : (k n : ℕ) → n < countOf g → (n ≤ follow g k n) × (follow g k n < countOf g)
   follow-within zero n h = (le-refl n, h)
   follow-within (suc k) n h =
       ⊎-elim (λ e. rw (eq-eqb (aliasAt g n) 0 e) (le-refl n, h))

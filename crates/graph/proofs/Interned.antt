@@ -48,7 +48,7 @@ module _ (p : ℕ → Bool) where
 -- ---- the key of a node
 
 -- where the words are the same, each of them is
-pub each-word : (g : List ℕ) (at n : ℕ) (ws : List ℕ) → n ≤ length ws → sameWords g at (take n ws) ≡ true → (k : ℕ) → k < n → getD g (at + k) 0 ≡ getD ws k 0
+each-word : (g : List ℕ) (at n : ℕ) (ws : List ℕ) → n ≤ length ws → sameWords g at (take n ws) ≡ true → (k : ℕ) → k < n → getD g (at + k) 0 ≡ getD ws k 0
 each-word g at zero ws l e k h = absurd (omega arith)
 each-word g at (suc n) [] l e k h = absurd (omega arith)
 each-word g at (suc n) (w ∷ ws) l e k h = by (eqb (getD g at 0) w) refl (λ f. each-word g (suc at) n ws (omega arith) f) e k h
@@ -85,7 +85,7 @@ same-key g ws n l = (each-word g (nodeStart n) KEY ws (omega arith), all-words g
 
 -- ---- a node that is found, and a new one
 
-pub length-appended : (g ws : List ℕ) → length g ≡ REGION → length ws ≡ WORDS → length (appended g ws .words) ≡ REGION
+length-appended : (g ws : List ℕ) → length g ≡ REGION → length ws ≡ WORDS → length (appended g ws .words) ≡ REGION
 length-appended g ws l w = by (ltb (countOf g) LIMIT) refl
   where
     by : (t : Bool) → ltb (countOf g) LIMIT ≡ t → length (appended g ws .words) ≡ REGION

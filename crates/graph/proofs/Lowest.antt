@@ -1,25 +1,23 @@
 -- Interning under question 1: the words of a key are those of what the node reads, so the lowest equal node is found. Assumes nothing.
-use mathlib.Core.Path.{_≡_, refl, sym, ap, _∙_}
+use mathlib.Core.Path.{_≡_, refl, sym, ap, subst, _∙_}
 use mathlib.Core.Bool.{true, false≢true}
 use mathlib.Core.List.{List}
 use mathlib.Core.Option.{Option, none, some}
-use Prim.Native.Nat.{ℕ, zero, suc, min, _+_, _-_, _/_, _%_, _^_, _<_, _≤_}
+use Prim.Native.Nat.{ℕ, zero, suc, min, _+_, _-_, _/_, _%_, _^_, _<_}
 use native.Mathlib.Omega.{arith}
-use borrow.Author.Tests.{eqb-true, leb-true, ltb-true, ltb-false, lt-ltb, le-ltb}
-use lib.Dec.{eqb, ltb}
-use lib.ListN.{getD}
+use borrow.Author.Tests.{eqb-true, leb-true, lt-ltb, le-ltb}
+use lib.Dec.{eqb}
 use lib.Pow.{high, low}
 use Rattle.word.proofs.Halves.{two-halves}
 use Rattle.word.proofs.Integer.{residue-signed}
 use Rattle.range.specs.Interval.{Interval}
 use Rattle.range.specs.declared.ScalarType.{ScalarType}
 use Rattle.range.proofs.Sound.{tests}
-use Rattle.evaluate.specs.Operator.{unaryCode, unaryWidth, binaryCode, typeWidth}
-use Rattle.evaluate.specs.declared.Unary.the-variants as un
-use Rattle.evaluate.specs.declared.Binary.the-variants as bi
-use Rattle.graph.specs.Layout.{LIMIT, nodeStart, wordAt, countOf}
+use Rattle.evaluate.specs.Operator.{BOOL, BITS, INTEGER, WIDEST, WIDTHS, OFFSETS, BINARY, unaryWidth, unaryOf, isUnaryCode, binaryOf, isBinaryCode, typeWidth}
+use Rattle.evaluate.proofs.Codes.{unary-limits, binary-limits, unary-exact, binary-exact, width-exact}
+use Rattle.graph.specs.Layout.{TYPE, WIDTH, RANGE, MIN, MAX, OPERATION, X, Y, Z, CONSTANT, INPUT, REFINE, EFFECT, SLICE, CONCAT, LIMIT, nodeStart, wordAt, countOf}
 use Rattle.graph.specs.Node as node
-use Rattle.graph.specs.Node.{Op, Parts, narrow, pair, typeOf, rangeOf, unaries, unaryOf, binaries, binaryOf, operationOf, typeAt, rangeAt, operationAt, nodeAt, typeCode, rangeFlag, rangeLow, rangeHigh, opCode, opX, opY, opZ, wordsOf}
+use Rattle.graph.specs.Node.{Op, Parts, narrow, pair, typeOf, rangeOf, operationOf, typeAt, rangeAt, operationAt, nodeAt, typeCode, rangeFlag, rangeLow, rangeHigh, opCode, opX, opY, opZ, wordsOf}
 use Rattle.graph.specs.Insert.{start, sameKey, interned}
 use Rattle.graph.specs.WellFormed.{isType, isRange, areFields, isOperation, isGraph}
 use Rattle.graph.proofs.Appended.{Exact, equal-key, new-key}
@@ -27,7 +25,6 @@ use Rattle.graph.proofs.Codes.{Stored}
 use Rattle.graph.proofs.Grown.{Graph, Node, graph-facts, node-facts, start-le, picked, chosen, fields}
 use Rattle.graph.proofs.Interned.{lowest-some, same-key}
 use Rattle.graph.proofs.Nodes.{length-words, type-read, range-read, operation-read}
-use Rattle.graph.proofs.Tests.{pass-of}
 use Rattle.graph.proofs.Words.{Words}
 
 -- ---- types and ranges
@@ -39,10 +36,10 @@ TypeWords code width t = (code ≡ typeCode t) × (width ≡ typeWidth t)
 -- question 1 has a type's words be those of what they stand for
 type-words : (code width : ℕ) → isType code width ≡ true → TypeWords code width (typeOf code width)
 type-words code width =
-    picked (TypeWords code width) (eqb code 0) (λ q e. (eqb-true code 0 q, eqb-true width 0 e))
+    picked (TypeWords code width) (eqb code BOOL) (λ q e. (eqb-true code BOOL q, eqb-true width 0 e))
     (λ q.
-    picked (TypeWords code width) (eqb code 1) (λ q e. let l = leb-true width 128 e in (eqb-true code 1 q, omega arith))
-    (λ q. chosen (eqb code 2) (λ q e. (eqb-true code 2 q, eqb-true width 0 e)) (λ q e. absurd (false≢true e))))
+    picked (TypeWords code width) (eqb code BITS) (λ q e. let l = leb-true width WIDEST e in (eqb-true code BITS q, omega arith))
+    (λ q. chosen (eqb code INTEGER) (λ q e. (eqb-true code INTEGER q, eqb-true width 0 e)) (λ q e. absurd (false≢true e))))
 
 -- the flag of a range, and the patterns of its ends
 abbrev RangeWords : ℕ → ℕ → ℕ → Option Interval → Type 0
@@ -58,26 +55,6 @@ range-words code width flag low high l h =
 
 -- ---- operations
 
--- the unary operators have the codes from 10 on
-unary-at : (w k : ℕ) → k < 7 → 10 + k ≡ unaryCode (getD (unaries w) k un.BoolNot)
-unary-at w k h = eqb-true (10 + k) _ (pass-of (λ (i : ℕ). eqb (10 + i) (unaryCode (getD (unaries w) i un.BoolNot))) 7 refl k h)
-
--- the binary operators those from 20 on
-binary-at : (k : ℕ) → k < 19 → 20 + k ≡ binaryCode (getD binaries k bi.Add)
-binary-at k h = eqb-true (20 + k) _ (pass-of (λ (i : ℕ). eqb (20 + i) (binaryCode (getD binaries i bi.Add))) 19 refl k h)
-
--- the first three unary operators have no parameter
-no-parameter : (w k : ℕ) → k < 3 → 0 ≡ unaryWidth (getD (unaries w) k un.BoolNot)
-no-parameter w k h = eqb-true 0 _ (pass-of (λ (i : ℕ). eqb 0 (unaryWidth (getD (unaries w) i un.BoolNot))) 3 refl k h)
-
--- the others have w
-parameter : (w k : ℕ) → k < 4 → w ≡ unaryWidth (getD (unaries w) (3 + k) un.BoolNot)
-parameter w zero h = refl
-parameter w (suc zero) h = refl
-parameter w (suc (suc zero)) h = refl
-parameter w (suc (suc (suc zero))) h = refl
-parameter w (suc (suc (suc (suc k)))) h = absurd (omega arith)
-
 -- the words of an operation
 abbrev OpWords : ℕ → ℕ → ℕ → ℕ → Op → Type 0
 OpWords code x y z o = (code ≡ opCode o) × (x ≡ opX o) × (y ≡ opY o) × (z ≡ opZ o)
@@ -87,33 +64,20 @@ module _ (n code x y z : ℕ) (short : x < 2 ^ 64) where
   abbrev Of : Op → Type 0
   Of = OpWords code x y z
 
-  -- a unary operator without a parameter
-  unary-bare : 10 ≤ code → code < 13 → areFields x n y 1 z 1 ≡ true → Of (node.unary (unaryOf code (narrow z)) x)
-  unary-bare a b e =
-      let h = fields x n y 1 z 1 e in
-      let c : code ≡ 10 + (code - 10) = omega arith in
-      let k : z ≡ 0 = omega arith in
-      (c ∙ unary-at (narrow z) (code - 10) (omega arith), refl, omega arith, k ∙ no-parameter (narrow z) (code - 10) (omega arith))
-
-  -- one with a parameter
-  unary-wide : 13 ≤ code → code < 17 → areFields x n y 1 z 129 ≡ true → Of (node.unary (unaryOf code (narrow z)) x)
-  unary-wide a b e =
-      let h = fields x n y 1 z 129 e in
-      let c : code ≡ 10 + (code - 10) = omega arith in
-      let d : 3 + (code - 13) ≡ code - 10 = omega arith in
-      let k : z ≡ narrow z = omega arith in (
-        c ∙ unary-at (narrow z) (code - 10) (omega arith),
-        refl,
-        omega arith,
-        k ∙ parameter (narrow z) (code - 13) (omega arith) ∙ ap (λ (i : ℕ). unaryWidth (getD (unaries (narrow z)) i un.BoolNot)) d,
-      )
+  -- a unary operator
+  unary-words : isUnaryCode code z ≡ true → areFields x n y 1 z WIDTHS ≡ true → Of (node.unary (unaryOf code (narrow z)) x)
+  unary-words q e =
+      let h = fields x n y 1 z WIDTHS e in
+      let l = unary-limits code z q in
+      let k : z ≡ narrow z = omega arith in
+      (unary-exact code (narrow z) (l .0) (l .1), refl, omega arith, subst (λ (v : ℕ). z ≡ unaryWidth (unaryOf code v)) k (width-exact code z q))
 
   -- a binary operator
-  binary-words : 20 ≤ code → code < 39 → areFields x n y n z 1 ≡ true → Of (node.binary (binaryOf code) x y)
-  binary-words a b e =
+  binary-words : isBinaryCode code ≡ true → areFields x n y n z 1 ≡ true → Of (node.binary (binaryOf code) x y)
+  binary-words q e =
       let h = fields x n y n z 1 e in
-      let c : code ≡ 20 + (code - 20) = omega arith in
-      (c ∙ binary-at (code - 20) (omega arith), refl, refl, omega arith)
+      let l = binary-limits code q in
+      (binary-exact code (l .0) (l .1), refl, refl, omega arith)
 
   -- an input or an effect
   no-operand : (c : ℕ) → eqb code c ≡ true → areFields 0 1 y 1 z 1 ≡ true → (code ≡ c) × (x ≡ x) × (y ≡ 0) × (z ≡ 0)
@@ -122,30 +86,21 @@ module _ (n code x y z : ℕ) (short : x < 2 ^ 64) where
   -- each operation by its code
   operation-words : isOperation n code x y z ≡ true → Of (operationOf code x y z)
   operation-words =
-      picked Of (eqb code 0) (λ q e. (eqb-true code 0 q, sym (low y 64 short), sym (high y 64 short), eqb-true z 0 e))
+      picked Of (eqb code CONSTANT) (λ q e. (eqb-true code CONSTANT q, sym (low y 64 short), sym (high y 64 short), eqb-true z 0 e))
       (λ q.
-      picked Of (eqb code 1) (no-operand 1)
+      picked Of (eqb code INPUT) (no-operand INPUT)
       (λ q.
-      picked Of (eqb code 2) (λ q e. let h = fields x n y 1 z 1 e in (eqb-true code 2 q, refl, omega arith, omega arith))
+      picked Of (eqb code REFINE) (λ q e. let h = fields x n y 1 z 1 e in (eqb-true code REFINE q, refl, omega arith, omega arith))
       (λ q.
-      picked Of (eqb code 3) (no-operand 3)
+      picked Of (eqb code EFFECT) (no-operand EFFECT)
       (λ q.
-      picked Of (eqb code 4) (λ q e. let h = fields x n y 128 z 129 e in (eqb-true code 4 q, refl, omega arith, omega arith))
+      picked Of (eqb code SLICE) (λ q e. let h = fields x n y OFFSETS z WIDTHS e in (eqb-true code SLICE q, refl, omega arith, omega arith))
       (λ q.
-      picked Of (eqb code 5) (λ q e. let h = fields x n y n z 129 e in (eqb-true code 5 q, refl, refl, omega arith))
+      picked Of (eqb code CONCAT) (λ q e. let h = fields x n y n z WIDTHS e in (eqb-true code CONCAT q, refl, refl, omega arith))
       (λ q.
-      chosen (ltb code 10) (λ q f. absurd (false≢true f))
+      chosen (isUnaryCode code z) (λ a f. let l = unary-limits code z a in rw (lt-ltb code BINARY (omega arith)) (unary-words a f))
       (λ a.
-      let a = ltb-false code 10 a in
-      chosen (ltb code 13) (λ b f. let b = ltb-true code 13 b in rw (lt-ltb code 20 (omega arith)) (unary-bare a b f))
-      (λ b.
-      let b = ltb-false code 13 b in
-      chosen (ltb code 17) (λ c f. let c = ltb-true code 17 c in rw (lt-ltb code 20 (omega arith)) (unary-wide b c f))
-      (λ c.
-      chosen (ltb code 20) (λ d f. absurd (false≢true f))
-      (λ d.
-      let d = ltb-false code 20 d in
-      chosen (ltb code 39) (λ e f. rw (le-ltb code 20 d) (binary-words d (ltb-true code 39 e) f)) (λ e f. absurd (false≢true f))))))))))))
+      chosen (isBinaryCode code) (λ b f. rw (le-ltb code BINARY (binary-limits code b .0)) (binary-words b f)) (λ b f. absurd (false≢true f)))))))))
 
 -- ---- a node
 
@@ -157,26 +112,26 @@ exact-of {g} f w n l = each
     facts : Node g (countOf g) n
     facts = node-facts g (countOf g) n (f .node n l)
 
-    type : TypeWords (wordAt g n 0) (wordAt g n 1) (typeAt g n)
-    type = type-words (wordAt g n 0) (wordAt g n 1) (facts .type)
+    type : TypeWords (wordAt g n TYPE) (wordAt g n WIDTH) (typeAt g n)
+    type = type-words (wordAt g n TYPE) (wordAt g n WIDTH) (facts .type)
 
-    range : RangeWords (wordAt g n 2) (pair (wordAt g n 3) (wordAt g n 4)) (pair (wordAt g n 5) (wordAt g n 6)) (rangeAt g n)
+    range : RangeWords (wordAt g n RANGE) (pair (wordAt g n MIN) (wordAt g n (MIN + 1))) (pair (wordAt g n MAX) (wordAt g n (MAX + 1))) (rangeAt g n)
     range =
-        range-words (wordAt g n 0) (wordAt g n 1) (wordAt g n 2) _ _
-        (two-halves 64 {h = wordAt g n 4} {l = wordAt g n 3} (w (nodeStart n + 4)) (w (nodeStart n + 3)))
-        (two-halves 64 {h = wordAt g n 6} {l = wordAt g n 5} (w (nodeStart n + 6)) (w (nodeStart n + 5))) (facts .range)
+        range-words (wordAt g n TYPE) (wordAt g n WIDTH) (wordAt g n RANGE) _ _
+        (two-halves 64 {h = wordAt g n (MIN + 1)} {l = wordAt g n MIN} (w (nodeStart n + (MIN + 1))) (w (nodeStart n + MIN)))
+        (two-halves 64 {h = wordAt g n (MAX + 1)} {l = wordAt g n MAX} (w (nodeStart n + (MAX + 1))) (w (nodeStart n + MAX))) (facts .range)
 
-    operation : OpWords (wordAt g n 7) (wordAt g n 8) (wordAt g n 9) (wordAt g n 10) (operationAt g n)
-    operation = operation-words n (wordAt g n 7) (wordAt g n 8) (wordAt g n 9) (wordAt g n 10) (w (nodeStart n + 8)) (facts .operation)
+    operation : OpWords (wordAt g n OPERATION) (wordAt g n X) (wordAt g n Y) (wordAt g n Z) (operationAt g n)
+    operation = operation-words n (wordAt g n OPERATION) (wordAt g n X) (wordAt g n Y) (wordAt g n Z) (w (nodeStart n + X)) (facts .operation)
 
     each : Exact g n
     each zero h = type .0
     each (suc zero) h = type .1
     each (suc (suc zero)) h = range .0
-    each (suc (suc (suc zero))) h = sym (low (wordAt g n 4) 64 (w (nodeStart n + 3))) ∙ ap (λ (i : ℕ). i % 2 ^ 64) (range .1)
-    each (suc (suc (suc (suc zero)))) h = sym (high (wordAt g n 4) 64 (w (nodeStart n + 3))) ∙ ap (λ (i : ℕ). i / 2 ^ 64) (range .1)
-    each (suc (suc (suc (suc (suc zero))))) h = sym (low (wordAt g n 6) 64 (w (nodeStart n + 5))) ∙ ap (λ (i : ℕ). i % 2 ^ 64) (range .2)
-    each (suc (suc (suc (suc (suc (suc zero)))))) h = sym (high (wordAt g n 6) 64 (w (nodeStart n + 5))) ∙ ap (λ (i : ℕ). i / 2 ^ 64) (range .2)
+    each (suc (suc (suc zero))) h = sym (low (wordAt g n (MIN + 1)) 64 (w (nodeStart n + MIN))) ∙ ap (λ (i : ℕ). i % 2 ^ 64) (range .1)
+    each (suc (suc (suc (suc zero)))) h = sym (high (wordAt g n (MIN + 1)) 64 (w (nodeStart n + MIN))) ∙ ap (λ (i : ℕ). i / 2 ^ 64) (range .1)
+    each (suc (suc (suc (suc (suc zero))))) h = sym (low (wordAt g n (MAX + 1)) 64 (w (nodeStart n + MAX))) ∙ ap (λ (i : ℕ). i % 2 ^ 64) (range .2)
+    each (suc (suc (suc (suc (suc (suc zero)))))) h = sym (high (wordAt g n (MAX + 1)) 64 (w (nodeStart n + MAX))) ∙ ap (λ (i : ℕ). i / 2 ^ 64) (range .2)
     each (suc (suc (suc (suc (suc (suc (suc zero))))))) h = operation .0
     each (suc (suc (suc (suc (suc (suc (suc (suc zero)))))))) h = operation .1
     each (suc (suc (suc (suc (suc (suc (suc (suc (suc zero))))))))) h = operation .2

@@ -13,7 +13,7 @@ use lib.Seq.{paste, getD-take, getD-drop, getD-append-add, getD-set-same, getD-s
 use Rattle.word.proofs.Integer.{lt-or-ge}
 use Rattle.range.specs.Interval.{Interval}
 use Rattle.range.specs.declared.ScalarType.{ScalarType}
-use Rattle.graph.specs.Layout.{WORDS, KEY, LIMIT, REGION, nodeStart, wordAt, countOf}
+use Rattle.graph.specs.Layout.{TYPE, WIDTH, RANGE, MIN, MAX, OPERATION, X, Y, Z, ALIAS, WORDS, KEY, LIMIT, REGION, nodeStart, wordAt, countOf}
 use Rattle.graph.specs.Node.{Op, wordsOf, typeOf, typeAt, rangeOf, rangeAt, operationOf, operationAt, aliasAt, rangeFlag, rangeLow, rangeHigh, pair, nodeAt}
 use Rattle.graph.specs.Insert as insert
 use Rattle.graph.specs.Insert.{id, made, appended, follow}
@@ -67,7 +67,7 @@ module _ (g ws : List ℕ) (n : ℕ) (size : length g ≡ REGION) (all : length 
   pub stored-length : length (paste g (nodeStart n) ws WORDS) ≡ length g
   stored-length = length-paste g (nodeStart n) ws WORDS inside enough
 
-  pub stored-new : (k : ℕ) → k < WORDS → wordAt (paste g (nodeStart n) ws WORDS) n k ≡ getD ws k 0
+  stored-new : (k : ℕ) → k < WORDS → wordAt (paste g (nodeStart n) ws WORDS) n k ≡ getD ws k 0
   stored-new k h = paste-in g (nodeStart n) ws WORDS inside enough k h
 
   pub stored-other : (m k : ℕ) → (m ≡ n → ⊥) → k < WORDS → wordAt (paste g (nodeStart n) ws WORDS) m k ≡ wordAt g m k
@@ -87,12 +87,12 @@ pub record Holds (g : List ℕ) (n : ℕ) (t : ScalarType) (r : Option Interval)
 
 -- a node with the words f holds what they stand for
 pub reading : (g : List ℕ) (n : ℕ) (f : ℕ → ℕ) → ((k : ℕ) → k < WORDS → wordAt g n k ≡ f k)
-    → Holds g n (typeOf (f 0) (f 1)) (rangeOf (f 2) (pair (f 3) (f 4)) (pair (f 5) (f 6))) (operationOf (f 7) (f 8) (f 9) (f 10)) (f 11)
+    → Holds g n (typeOf (f TYPE) (f WIDTH)) (rangeOf (f RANGE) (pair (f MIN) (f (MIN + 1))) (pair (f MAX) (f (MAX + 1)))) (operationOf (f OPERATION) (f X) (f Y) (f Z)) (f ALIAS)
 reading g n f e = record {
-  type = λ i. typeOf (e 0 (lit< tt) i) (e 1 (lit< tt) i);
-  range = λ i. rangeOf (e 2 (lit< tt) i) (pair (e 3 (lit< tt) i) (e 4 (lit< tt) i)) (pair (e 5 (lit< tt) i) (e 6 (lit< tt) i));
-  operation = λ i. operationOf (e 7 (lit< tt) i) (e 8 (lit< tt) i) (e 9 (lit< tt) i) (e 10 (lit< tt) i);
-  alias = e 11 (lit< tt);
+  type = λ i. typeOf (e TYPE (lit< tt) i) (e WIDTH (lit< tt) i);
+  range = λ i. rangeOf (e RANGE (lit< tt) i) (pair (e MIN (lit< tt) i) (e (MIN + 1) (lit< tt) i)) (pair (e MAX (lit< tt) i) (e (MAX + 1) (lit< tt) i));
+  operation = λ i. operationOf (e OPERATION (lit< tt) i) (e X (lit< tt) i) (e Y (lit< tt) i) (e Z (lit< tt) i);
+  alias = e ALIAS (lit< tt);
 }
 
 -- a node with the key of a type, a range and an operation has them
@@ -100,21 +100,21 @@ module _ (g : List ℕ) (n : ℕ) (t : ScalarType) (r : Option Interval) (o : Op
     (e : (k : ℕ) → k < KEY → wordAt g n k ≡ getD (wordsOf t r o) k 0) where
   pub type-read : typeAt g n ≡ t
   unfolding wordsOf
-  type-read = (λ i. typeOf (e 0 (lit< tt) i) (e 1 (lit< tt) i)) ∙ type-back t (s .width)
+  type-read = (λ i. typeOf (e TYPE (lit< tt) i) (e WIDTH (lit< tt) i)) ∙ type-back t (s .width)
 
   pub range-read : rangeAt g n ≡ r
   unfolding wordsOf
   range-read =
-      (λ i. rangeOf (e 2 (lit< tt) i) (pair (e 3 (lit< tt) i) (e 4 (lit< tt) i)) (pair (e 5 (lit< tt) i) (e 6 (lit< tt) i)))
+      (λ i. rangeOf (e RANGE (lit< tt) i) (pair (e MIN (lit< tt) i) (e (MIN + 1) (lit< tt) i)) (pair (e MAX (lit< tt) i) (e (MAX + 1) (lit< tt) i)))
       ∙ (λ i. rangeOf (rangeFlag r) (pair-back (rangeLow r) i) (pair-back (rangeHigh r) i)) ∙ range-back r (s .low) (s .high)
 
   pub operation-read : operationAt g n ≡ o
   unfolding wordsOf
   operation-read =
-      (λ i. operationOf (e 7 (lit< tt) i) (e 8 (lit< tt) i) (e 9 (lit< tt) i) (e 10 (lit< tt) i)) ∙ operation-back o (s .offset) (s .parameter)
+      (λ i. operationOf (e OPERATION (lit< tt) i) (e X (lit< tt) i) (e Y (lit< tt) i) (e Z (lit< tt) i)) ∙ operation-back o (s .offset) (s .parameter)
 
 -- and with its words it has no alias
-pub words-back : (g : List ℕ) (n : ℕ) (t : ScalarType) (r : Option Interval) (o : Op) → Stored t r o
+words-back : (g : List ℕ) (n : ℕ) (t : ScalarType) (r : Option Interval) (o : Op) → Stored t r o
     → ((k : ℕ) → k < WORDS → wordAt g n k ≡ getD (wordsOf t r o) k 0) → Holds g n t r o 0
 unfolding wordsOf
 words-back g n t r o s e =
@@ -123,7 +123,7 @@ words-back g n t r o s e =
       type = type-read g n t r o s key;
       range = range-read g n t r o s key;
       operation = operation-read g n t r o s key;
-      alias = e 11 (lit< tt);
+      alias = e ALIAS (lit< tt);
     }
 
 -- there are as many words as a node has

@@ -1,6 +1,6 @@
 -- Saving alias words and taking back: what was saved of a graph puts it back, whatever nodes were added and aliases set. Assumes nothing.
 use mathlib.Core.Path.{_≡_, refl, sym, ap, _∙_, subst}
-use mathlib.Core.Bool.{Bool, true, false, cond}
+use mathlib.Core.Bool.{Bool, true, false, cond, _&&_}
 use mathlib.Core.List.{List}
 use mathlib.Core.Logic.{_⊎_, inl, inr, ⊎-elim}
 use mathlib.Core.Option.{Option}
@@ -12,7 +12,7 @@ use lib.Dec.{ltb, lit<}
 use lib.ListN.{length, getD, set, length-set}
 use lib.Seq.{getD-set-same, getD-set-other}
 use Rattle.word.proofs.Integer.{lt-or-ge}
-use Rattle.range.specs.Interval.{Interval, both}
+use Rattle.range.specs.Interval.{Interval}
 use Rattle.range.specs.declared.ScalarType.{ScalarType}
 use Rattle.graph.specs.Layout.{WORDS, KEY, ALIAS, FIRST, LIMIT, REGION, nodeStart, wordAt, countOf}
 use Rattle.graph.specs.Node.{Op, aliasAt}
@@ -25,11 +25,11 @@ use Rattle.graph.proofs.Wiping.{cleared-one}
 
 -- ---- lengths
 
-pub length-saved : (n : ℕ) (g s : List ℕ) → length (savedUpTo n g s) ≡ length s
+length-saved : (n : ℕ) (g s : List ℕ) → length (savedUpTo n g s) ≡ length s
 length-saved zero g s = refl
 length-saved (suc n) g s = length-set (savedUpTo n g s) n (aliasAt g n) ∙ length-saved n g s
 
-pub length-restored : (n : ℕ) (s h : List ℕ) → length (restoredUpTo n s h) ≡ length h
+length-restored : (n : ℕ) (s h : List ℕ) → length (restoredUpTo n s h) ≡ length h
 length-restored zero s h = refl
 length-restored (suc n) s h = length-set (restoredUpTo n s h) (nodeStart n + ALIAS) (getD s n 0) ∙ length-restored n s h
 
@@ -109,7 +109,7 @@ inserted-same n g h t r o s =
 -- an alias changes none of them
 pub aliased-same : {k : ℕ} {g h : List ℕ} → Same k g h → (n m : ℕ) → Same k g (aliased h n m)
 unfolding aliased
-aliased-same {k} {g} {h} s n m = by (both (ltb n LIMIT) (ltb m LIMIT))
+aliased-same {k} {g} {h} s n m = by (ltb n LIMIT && ltb m LIMIT)
   where
     by : (t : Bool) → Same k g (cond t (set h (nodeStart n + ALIAS) (m + 1)) h)
     by true = record {

@@ -1,34 +1,33 @@
 -- The tests of a node's words by their codes, and one turn of each loop over the nodes and the words. Assumes nothing.
 use mathlib.Core.Path.{_≡_, refl, sym, _∙_}
-use mathlib.Core.Bool.{Bool, true, false, not, cond}
+use mathlib.Core.Bool.{Bool, true, false, not, cond, _&&_}
 use mathlib.Core.List.{List}
 use mathlib.Core.Logic.{⊎-elim}
 use Prim.Native.Nat.{ℕ, zero, suc, _+_, _<_, _≤_}
 use native.Mathlib.Numerals.{add-one}
 use native.Mathlib.Omega.{arith}
-use borrow.Author.Tests.{ne-eqb, lt-ltb, le-ltb}
+use borrow.Author.Tests.{ne-eqb, lt-ltb}
 use lib.Bits.{bitOr, or-add-and, and-le-r}
 use lib.Dec.{ltb, eqb}
 use lib.ListN.{length, getD, drop, drop-of-length-le}
 use lib.Seq.{drop-cons}
 use Rattle.word.proofs.Integer.{lt-or-ge}
-use Rattle.range.specs.Interval.{both}
+use Rattle.evaluate.specs.Operator.{WIDTHS, isUnaryCode, isBinaryCode}
+use Rattle.graph.specs.Layout.{CONSTANT, INPUT, REFINE, EFFECT, SLICE, CONCAT}
 use Rattle.graph.specs.WellFormed.{areFields, isOperation, allPass, areZeros}
 
--- from code 10 on only the operators are left
-pub operators : (n code x y z : ℕ) → 10 ≤ code
+-- past the codes of the other operations only the operators are left
+pub operators : (n code x y z : ℕ) → CONCAT < code
     → isOperation n code x y z
-    ≡ cond (ltb code 13) (areFields x n y 1 z 1)
-    (cond (ltb code 17) (areFields x n y 1 z 129) (cond (ltb code 20) false (cond (ltb code 39) (areFields x n y n z 1) false)))
+    ≡ cond (isUnaryCode code z) (areFields x n y 1 z WIDTHS) (cond (isBinaryCode code) (areFields x n y n z 1) false)
 operators n code x y z h =
     simp (
-      ne-eqb code 0 (λ e. omega arith),
-      ne-eqb code 1 (λ e. omega arith),
-      ne-eqb code 2 (λ e. omega arith),
-      ne-eqb code 3 (λ e. omega arith),
-      ne-eqb code 4 (λ e. omega arith),
-      ne-eqb code 5 (λ e. omega arith),
-      le-ltb code 10 h,
+      ne-eqb code CONSTANT (λ e. omega arith),
+      ne-eqb code INPUT (λ e. omega arith),
+      ne-eqb code REFINE (λ e. omega arith),
+      ne-eqb code EFFECT (λ e. omega arith),
+      ne-eqb code SLICE (λ e. omega arith),
+      ne-eqb code CONCAT (λ e. omega arith),
     )
 
 -- a number is 0 if it is not above 0
@@ -39,11 +38,11 @@ zero-test (suc n) = rw (lt-ltb 0 (suc n) (omega arith), ne-eqb (suc n) 0 (λ e. 
 -- ---- a test of all numbers below another: one number more, one that fails, and each by itself
 
 -- one test is that test and no other
-pub both-true : (t : Bool) → t ≡ both t true
+pub both-true : (t : Bool) → t ≡ t && true
 both-true true = refl
 both-true false = refl
 
-both-false : (t : Bool) → both t false ≡ false
+both-false : (t : Bool) → t && false ≡ false
 both-false true = refl
 both-false false = refl
 
@@ -73,19 +72,19 @@ module _ (p : ℕ → Bool) where
 -- ---- are_zeros: words passed, and the end
 
 -- an Or is 0 if both numbers are
-or-test : (a b : ℕ) → eqb (bitOr a b) 0 ≡ both (eqb a 0) (eqb b 0)
+or-test : (a b : ℕ) → eqb (bitOr a b) 0 ≡ eqb a 0 && eqb b 0
 or-test zero b = refl
 or-test (suc a) b =
     rw (ne-eqb (bitOr (suc a) b) 0 (λ e. omega (arith, or-add-and (suc a) b, and-le-r (suc a) b)), ne-eqb (suc a) 0 (λ e. omega arith))
 
-both-assoc : (s t u : Bool) → both s (both t u) ≡ both (both s t) u
+both-assoc : (s t u : Bool) → s && (t && u) ≡ s && t && u
 both-assoc true t u = refl
 both-assoc false t u = refl
 
 module _ (g : List ℕ) (at : ℕ) where
   -- ones are the bits of the words before `at`
   pub zeros-on : (ones : ℕ) → at < length g
-      → both (eqb ones 0) (areZeros (drop at g)) ≡ both (eqb (bitOr ones (getD g at 0)) 0) (areZeros (drop (at + 1) g))
+      → eqb ones 0 && areZeros (drop at g) ≡ eqb (bitOr ones (getD g at 0)) 0 && areZeros (drop (at + 1) g)
   zeros-on ones h = rw (drop-cons g at 0 h, add-one at, or-test ones (getD g at 0)) (both-assoc (eqb ones 0) (eqb (getD g at 0) 0) (areZeros (drop (suc at) g)))
 
   pub zeros-end : length g ≤ at → areZeros (drop at g) ≡ true

@@ -1,6 +1,6 @@
 -- Regions whose words are below 2 ^ 64: what is stored keeps them so, and the ends of their ranges are integers of 128 bits. Assumes nothing.
 use mathlib.Core.Path.{_≡_, refl, subst}
-use mathlib.Core.Bool.{Bool, true, false, cond}
+use mathlib.Core.Bool.{Bool, true, false, cond, _&&_}
 use mathlib.Core.List.{List, [], _∷_, _++_}
 use mathlib.Core.Option.{Option, none, some}
 use Prim.Native.Nat.{ℕ, zero, suc, _+_, _^_, _<_}
@@ -15,12 +15,12 @@ use lib.Signed.{mag}
 use Rattle.word.specs.Value.{signed}
 use Rattle.word.proofs.Halves.{two-halves}
 use Rattle.word.proofs.Integer.{residue-lt, signed-mag}
-use Rattle.range.specs.Interval.{Interval, both}
+use Rattle.range.specs.Interval.{Interval}
 use Rattle.range.specs.declared.ScalarType.{ScalarType}
 use Rattle.range.specs.declared.ScalarType.the-variants as ty
 use Rattle.range.proofs.Answers.{none-some, some-is}
 use Rattle.evaluate.specs.Operator.{typeWidth}
-use Rattle.graph.specs.Layout.{WORDS, ALIAS, LIMIT, nodeStart, wordAt, countOf}
+use Rattle.graph.specs.Layout.{RANGE, MIN, MAX, WORDS, ALIAS, LIMIT, nodeStart, wordAt, countOf}
 use Rattle.graph.specs.Node.{Op, pair, typeCode, rangeAt, rangeFlag, rangeLow, rangeHigh, opCode, opX, opY, opZ, wordsOf}
 use Rattle.graph.specs.Insert.{appended}
 use Rattle.graph.specs.Alias.{aliased}
@@ -77,7 +77,7 @@ pub aliased-words : (g : List ℕ) (n m : ℕ) → Words g → Words (aliased g 
 unfolding aliased
 aliased-words g n m v = by (ltb n LIMIT) (ltb m LIMIT) refl
   where
-    by : (s t : Bool) → ltb m LIMIT ≡ t → Words (cond (both s t) (set g (nodeStart n + ALIAS) (m + 1)) g)
+    by : (s t : Bool) → ltb m LIMIT ≡ t → Words (cond (s && t) (set g (nodeStart n + ALIAS) (m + 1)) g)
     by true true e = let l = ltb-true m LIMIT e in set-words g v (nodeStart n + ALIAS) (m + 1) (omega arith)
     by true false e = v
     by false t e = v
@@ -118,15 +118,15 @@ node-words t r o width code x y z =
 
 -- the ends of a range are integers of 128 bits
 pub ends-of : (g : List ℕ) → Words g → (n : ℕ) (a : Interval) → rangeAt g n ≡ some a → (mag (a .low) < 2 ^ 127) × (mag (a .high) < 2 ^ 127)
-ends-of g w n a e = by (eqb (wordAt g n 2) 0) e
+ends-of g w n a e = by (eqb (wordAt g n RANGE) 0) e
   where
     b : Interval
-    b = record { low = signed 128 (pair (wordAt g n 3) (wordAt g n 4)); high = signed 128 (pair (wordAt g n 5) (wordAt g n 6)) }
+    b = record { low = signed 128 (pair (wordAt g n MIN) (wordAt g n (MIN + 1))); high = signed 128 (pair (wordAt g n MAX) (wordAt g n (MAX + 1))) }
 
     by : (z : Bool) → cond z none (some b) ≡ some a → (mag (a .low) < 2 ^ 127) × (mag (a .high) < 2 ^ 127)
     by true q = absurd (none-some q)
     by false q =
         subst (λ (x : Interval). (mag (x .low) < 2 ^ 127) × (mag (x .high) < 2 ^ 127)) (some-is q) (
-          signed-mag 128 _ (lit< tt) (two-halves 64 {h = wordAt g n 4} {l = wordAt g n 3} (w (nodeStart n + 4)) (w (nodeStart n + 3))),
-          signed-mag 128 _ (lit< tt) (two-halves 64 {h = wordAt g n 6} {l = wordAt g n 5} (w (nodeStart n + 6)) (w (nodeStart n + 5))),
+          signed-mag 128 _ (lit< tt) (two-halves 64 {h = wordAt g n (MIN + 1)} {l = wordAt g n MIN} (w (nodeStart n + (MIN + 1))) (w (nodeStart n + MIN))),
+          signed-mag 128 _ (lit< tt) (two-halves 64 {h = wordAt g n (MAX + 1)} {l = wordAt g n MAX} (w (nodeStart n + (MAX + 1))) (w (nodeStart n + MAX))),
         )

@@ -1,17 +1,16 @@
 -- Aliases: set, saved, and put back.
-use mathlib.Core.Bool.{cond}
+use mathlib.Core.Bool.{cond, _&&_}
 use mathlib.Core.List.{List}
 use Prim.Native.Nat.{ℕ, zero, suc, _+_}
 use lib.Dec.{ltb}
 use lib.ListN.{getD, set}
-use Rattle.range.specs.Interval.{both}
 use Rattle.graph.specs.Layout.{ALIAS, LIMIT, nodeStart, countOf}
 use Rattle.graph.specs.Node.{aliasAt}
 use Rattle.graph.specs.Clear.{cleared}
 
 -- the alias of node n is node m; past the limit there is no node, and nothing is written
 unfoldable pub aliased : List ℕ → ℕ → ℕ → List ℕ
-aliased g n m = cond (both (ltb n LIMIT) (ltb m LIMIT)) (set g (nodeStart n + ALIAS) (m + 1)) g
+aliased g n m = cond (ltb n LIMIT && ltb m LIMIT) (set g (nodeStart n + ALIAS) (m + 1)) g
 
 -- the alias words of the first n nodes, written over the first n of s
 abbrev pub savedUpTo : ℕ → List ℕ → List ℕ → List ℕ

@@ -7,6 +7,7 @@ use lib.Dec.{eqb, ltb}
 use lib.ListN.{getD, set, take}
 use lib.Seq.{paste}
 use Rattle.word.specs.Value.{isNeg, signed}
+use Rattle.word.specs.Option.{orElse}
 use Rattle.range.specs.Interval.{Interval, point, typeInterval}
 use Rattle.range.specs.declared.ScalarType.{ScalarType}
 use Rattle.range.specs.declared.ScalarType.the-variants as ty
@@ -130,11 +131,6 @@ constantInterval ty.Integer v = some (point (signed 128 v))
 -- a constant of a type: its value reduced to the type, with its range
 unfoldable pub constant : List ℕ → ScalarType → ℕ → Made
 constant g t v = inserted g t (constantInterval t (reduced t v)) (node.constant (reduced t v))
-
--- the range given, or the type's
-abbrev pub orElse : Option Interval → Option Interval → Option Interval
-orElse none r = r
-orElse (some a) r = some a
 
 -- an input with its number: the range given, or its type's
 unfoldable pub input : List ℕ → ℕ → ScalarType → Option Interval → Made

@@ -1,23 +1,20 @@
 -- What the words of a node stand for, and the words of a new node.
 use mathlib.Core.Bool.{cond}
-use mathlib.Core.List.{List, [], _∷_}
+use mathlib.Core.List.{List, [], _∷_, _++_}
 use mathlib.Core.Option.{Option, none, some}
-use Prim.Native.Nat.{ℕ, _+_, _-_, _*_, _/_, _%_, _^_}
+use Prim.Native.Nat.{ℕ, _+_, _*_, _/_, _%_, _^_}
 use lib.Dec.{eqb, ltb}
-use lib.ListN.{getD}
 use Rattle.word.specs.Value.{val, residue, signed}
 use Rattle.range.specs.Interval.{Interval, intervalOf}
 use Rattle.range.specs.declared.ScalarType.{ScalarType}
 use Rattle.range.specs.declared.ScalarType.the-variants as ty
 use Rattle.evaluate.specs.declared.Unary.{Unary}
-use Rattle.evaluate.specs.declared.Unary.the-variants as un
 use Rattle.evaluate.specs.declared.Binary.{Binary}
-use Rattle.evaluate.specs.declared.Binary.the-variants as bi
-use Rattle.evaluate.specs.Operator.{unaryCode, unaryWidth, binaryCode, typeWidth}
+use Rattle.evaluate.specs.Operator.{BOOL, BITS, INTEGER, BINARY, unaryCode, unaryWidth, unaryOf, binaryCode, binaryOf, typeWidth}
 use Rattle.graph.specs.declared.Node.{Node}
 use Rattle.graph.specs.declared.Operation.{Operation}
 use Rattle.graph.specs.declared.Operation.the-variants as operation
-use Rattle.graph.specs.Layout.{wordAt}
+use Rattle.graph.specs.Layout.{TYPE, WIDTH, RANGE, MIN, MAX, OPERATION, X, Y, Z, ALIAS, CONSTANT, INPUT, REFINE, EFFECT, SLICE, CONCAT, wordAt}
 
 -- an operation, with ids, numbers and patterns as numbers
 pub data Op : Type 0 where
@@ -47,13 +44,13 @@ opOf (operation.Binary b i j) = binary b (i .0) (j .0)
 abbrev pub narrow : ℕ → ℕ
 narrow n = n % 2 ^ 16
 
--- 0 Bool, 1 Bits, 2 Integer
+-- the type of a code and a width
 abbrev pub typeOf : ℕ → ℕ → ScalarType
-typeOf code width = cond (eqb code 0) ty.Bool (cond (eqb code 1) (ty.Bits (narrow width)) ty.Integer)
+typeOf code width = cond (eqb code BOOL) ty.Bool (cond (eqb code BITS) (ty.Bits (narrow width)) ty.Integer)
 
--- the type of node n, words 0 and 1
+-- the type of node n
 abbrev pub typeAt : List ℕ → ℕ → ScalarType
-typeAt g n = typeOf (wordAt g n 0) (wordAt g n 1)
+typeAt g n = typeOf (wordAt g n TYPE) (wordAt g n WIDTH)
 
 -- two words, low half first
 abbrev pub pair : ℕ → ℕ → ℕ
@@ -63,44 +60,25 @@ pair low high = high * 2 ^ 64 + low
 abbrev pub rangeOf : ℕ → ℕ → ℕ → Option Interval
 rangeOf flag low high = cond (eqb flag 0) none (some (record { low = signed 128 low; high = signed 128 high }))
 
--- the range of node n, words 2 to 6
+-- the range of node n
 abbrev pub rangeAt : List ℕ → ℕ → Option Interval
-rangeAt g n = rangeOf (wordAt g n 2) (pair (wordAt g n 3) (wordAt g n 4)) (pair (wordAt g n 5) (wordAt g n 6))
+rangeAt g n = rangeOf (wordAt g n RANGE) (pair (wordAt g n MIN) (wordAt g n (MIN + 1))) (pair (wordAt g n MAX) (wordAt g n (MAX + 1)))
 
--- the unary operators from code 10 on
-abbrev pub unaries : ℕ → List Unary
-unaries w = un.BoolNot ∷ un.BitNot ∷ un.Negate ∷ un.Truncate w ∷ un.SignExtend w ∷ un.LeadingZeros w ∷ un.TrailingZeros w ∷ []
-
--- the unary operator of a code
-abbrev pub unaryOf : ℕ → ℕ → Unary
-unaryOf code width = getD (unaries width) (code - 10) un.BoolNot
-
--- the binary operators from code 20 on
-abbrev pub binaries : List Binary
-binaries =
-    bi.Add ∷ bi.Sub ∷ bi.Mul ∷ bi.And ∷ bi.Or ∷ bi.Xor ∷ bi.ShiftLeft ∷ bi.ShiftRight ∷ bi.ArithmeticShiftRight
-    ∷ bi.Equal ∷ bi.NotEqual ∷ bi.LessSigned ∷ bi.LessUnsigned ∷ bi.LessEqualSigned ∷ bi.LessEqualUnsigned
-    ∷ bi.DivideSigned ∷ bi.RemainderSigned ∷ bi.DivideUnsigned ∷ bi.RemainderUnsigned ∷ []
-
--- the binary operator of a code
-abbrev pub binaryOf : ℕ → Binary
-binaryOf code = getD binaries (code - 20) bi.Add
-
--- 0 Constant, 1 Input, 2 Refine, 3 Effect, 4 Slice, 5 Concat, unary below 20, binary from there on
+-- the operation of a code and its three fields: another code below BINARY is taken for a unary operator, from there on for a binary one
 abbrev pub operationOf : ℕ → ℕ → ℕ → ℕ → Op
 operationOf code x y z =
-    cond (eqb code 0) (constant (pair x y))
-    (cond (eqb code 1) (input x)
-    (cond (eqb code 2) (refine x)
-    (cond (eqb code 3) (effect x)
-    (cond (eqb code 4) (slice x (narrow y) (narrow z))
-    (cond (eqb code 5) (concat x y (narrow z))
-    (cond (ltb code 20) (unary (unaryOf code (narrow z)) x)
+    cond (eqb code CONSTANT) (constant (pair x y))
+    (cond (eqb code INPUT) (input x)
+    (cond (eqb code REFINE) (refine x)
+    (cond (eqb code EFFECT) (effect x)
+    (cond (eqb code SLICE) (slice x (narrow y) (narrow z))
+    (cond (eqb code CONCAT) (concat x y (narrow z))
+    (cond (ltb code BINARY) (unary (unaryOf code (narrow z)) x)
     (binary (binaryOf code) x y)))))))
 
--- the operation of node n, words 7 to 10
+-- the operation of node n
 abbrev pub operationAt : List ℕ → ℕ → Op
-operationAt g n = operationOf (wordAt g n 7) (wordAt g n 8) (wordAt g n 9) (wordAt g n 10)
+operationAt g n = operationOf (wordAt g n OPERATION) (wordAt g n X) (wordAt g n Y) (wordAt g n Z)
 
 -- a node but for its alias
 pub record Parts : Type 0 where
@@ -118,15 +96,15 @@ nodeAt g n = record { type = typeAt g n; range = rangeAt g n; operation = operat
 
 -- the alias plus 1, or 0
 abbrev pub aliasAt : List ℕ → ℕ → ℕ
-aliasAt g n = wordAt g n 11
+aliasAt g n = wordAt g n ALIAS
 
 -- ---- writing
 
--- 0 Bool, 1 Bits, 2 Integer
+-- the code of a type
 abbrev pub typeCode : ScalarType → ℕ
-typeCode ty.Bool = 0
-typeCode (ty.Bits w) = 1
-typeCode ty.Integer = 2
+typeCode ty.Bool = BOOL
+typeCode (ty.Bits w) = BITS
+typeCode ty.Integer = INTEGER
 
 -- is there a range? 0 or 1
 abbrev pub rangeFlag : Option Interval → ℕ
@@ -145,16 +123,16 @@ rangeHigh (some a) = residue 128 (a .high)
 
 -- the code of an operation
 abbrev pub opCode : Op → ℕ
-opCode (constant c) = 0
-opCode (input i) = 1
-opCode (refine i) = 2
-opCode (effect i) = 3
-opCode (slice i o w) = 4
-opCode (concat i j w) = 5
+opCode (constant c) = CONSTANT
+opCode (input i) = INPUT
+opCode (refine i) = REFINE
+opCode (effect i) = EFFECT
+opCode (slice i o w) = SLICE
+opCode (concat i j w) = CONCAT
 opCode (unary u i) = unaryCode u
 opCode (binary b i j) = binaryCode b
 
--- word 8: a constant's low half, a number, or the first operand
+-- field X: a constant's low half, a number, or the first operand
 abbrev pub opX : Op → ℕ
 opX (constant c) = c % 2 ^ 64
 opX (input i) = i
@@ -165,7 +143,7 @@ opX (concat i j w) = i
 opX (unary u i) = i
 opX (binary b i j) = i
 
--- word 9: a constant's high half, an offset, or the second operand
+-- field Y: a constant's high half, an offset, or the second operand
 abbrev pub opY : Op → ℕ
 opY (constant c) = c / 2 ^ 64
 opY (input i) = 0
@@ -176,7 +154,7 @@ opY (concat i j w) = j
 opY (unary u i) = 0
 opY (binary b i j) = j
 
--- word 10: a width, or a unary operator's parameter
+-- field Z: a width, or a unary operator's parameter
 abbrev pub opZ : Op → ℕ
 opZ (constant c) = 0
 opZ (input i) = 0
@@ -187,8 +165,16 @@ opZ (concat i j w) = w
 opZ (unary u i) = unaryWidth u
 opZ (binary b i j) = 0
 
+-- the words of a node's key
+abbrev pub keyOf : ScalarType → Option Interval → Op → List ℕ
+keyOf t r o =
+    typeCode t ∷ typeWidth t ∷ rangeFlag r ∷ rangeLow r % 2 ^ 64 ∷ rangeLow r / 2 ^ 64 ∷ rangeHigh r % 2 ^ 64 ∷ rangeHigh r / 2 ^ 64
+    ∷ opCode o ∷ opX o ∷ opY o ∷ opZ o ∷ []
+
+-- the words past the key of a node without an alias
+abbrev pub PAST : List ℕ
+PAST = 0 ∷ []
+
 -- the words of a node without an alias
 unfoldable pub wordsOf : ScalarType → Option Interval → Op → List ℕ
-wordsOf t r o =
-    typeCode t ∷ typeWidth t ∷ rangeFlag r ∷ rangeLow r % 2 ^ 64 ∷ rangeLow r / 2 ^ 64 ∷ rangeHigh r % 2 ^ 64 ∷ rangeHigh r / 2 ^ 64
-    ∷ opCode o ∷ opX o ∷ opY o ∷ opZ o ∷ 0 ∷ []
+wordsOf t r o = keyOf t r o ++ PAST

@@ -1,61 +1,58 @@
 -- Question 1: is the region a graph? On the words; unused words are 0.
-use mathlib.Core.Bool.{Bool, true, false, cond}
+use mathlib.Core.Bool.{Bool, true, false, cond, _&&_, _||_}
 use mathlib.Core.List.{List, [], _∷_}
-use Prim.Native.Nat.{ℕ, zero, suc, _-_}
+use Prim.Native.Nat.{ℕ, zero, suc, _+_, _-_}
 use lib.Dec.{eqb, ltb, leb}
 use lib.ListN.{length, drop}
 use lib.Signed.{leZ}
 use Rattle.word.specs.Value.{signed}
-use Rattle.range.specs.Interval.{both, one, insideType}
-use Rattle.graph.specs.Layout.{LIMIT, REGION, nodeStart, wordAt, countOf}
-use Rattle.graph.specs.Node.{pair, typeOf}
+use Rattle.range.specs.Interval.{insideType}
+use Rattle.evaluate.specs.Operator.{BOOL, BITS, INTEGER, WIDEST, WIDTHS, OFFSETS, isUnaryCode, isBinaryCode}
+use Rattle.graph.specs.Layout.{TYPE, WIDTH, RANGE, MIN, MAX, OPERATION, X, Y, Z, CONSTANT, INPUT, REFINE, EFFECT, SLICE, CONCAT, LIMIT, REGION, nodeStart, wordAt, countOf}
+use Rattle.graph.specs.Node.{pair, typeOf, aliasAt}
 
--- a type: 0 Bool, 1 Bits of at most 128, 2 Integer; no width but for Bits
+-- a type: a known code, and a width of Bits alone, at most WIDEST
 abbrev pub isType : ℕ → ℕ → Bool
-isType code width = cond (eqb code 0) (eqb width 0) (cond (eqb code 1) (leb width 128) (cond (eqb code 2) (eqb width 0) false))
+isType code width = cond (eqb code BOOL) (eqb width 0) (cond (eqb code BITS) (leb width WIDEST) (cond (eqb code INTEGER) (eqb width 0) false))
 
 -- a range: none, with its words 0, or not empty and inside the type
 abbrev pub isRange : ℕ → ℕ → ℕ → ℕ → ℕ → Bool
 isRange code width flag low high =
-    cond (eqb flag 0) (both (eqb low 0) (eqb high 0))
-    (both (eqb flag 1)
-    (both (leZ (signed 128 low) (signed 128 high)) (insideType (typeOf code width) (record { low = signed 128 low; high = signed 128 high }))))
+    cond (eqb flag 0) (eqb low 0 && eqb high 0)
+    (eqb flag 1
+    && (leZ (signed 128 low) (signed 128 high) && insideType (typeOf code width) (record { low = signed 128 low; high = signed 128 high })))
 
 -- are three fields below their bounds? An unused field is below 1
 abbrev pub areFields : ℕ → ℕ → ℕ → ℕ → ℕ → ℕ → Bool
-areFields x xlimit y ylimit z zlimit = both (ltb x xlimit) (both (ltb y ylimit) (ltb z zlimit))
+areFields x xlimit y ylimit z zlimit = ltb x xlimit && (ltb y ylimit && ltb z zlimit)
 
--- an operation of node n: a known code, operands below n, slice offsets at most 127, widths at most 128
+-- an operation of node n: a known code, operands below n, offsets below OFFSETS, widths at most WIDEST, unused fields 0
 abbrev pub isOperation : ℕ → ℕ → ℕ → ℕ → ℕ → Bool
 isOperation n code x y z =
-    cond (eqb code 0) (eqb z 0)
-    (cond (eqb code 1) (areFields 0 1 y 1 z 1)
-    (cond (eqb code 2) (areFields x n y 1 z 1)
-    (cond (eqb code 3) (areFields 0 1 y 1 z 1)
-    (cond (eqb code 4) (areFields x n y 128 z 129)
-    (cond (eqb code 5) (areFields x n y n z 129)
-    (cond (ltb code 10) false
-    (cond (ltb code 13) (areFields x n y 1 z 1)
-    (cond (ltb code 17) (areFields x n y 1 z 129)
-    (cond (ltb code 20) false
-    (cond (ltb code 39) (areFields x n y n z 1) false))))))))))
+    cond (eqb code CONSTANT) (eqb z 0)
+    (cond (eqb code INPUT) (areFields 0 1 y 1 z 1)
+    (cond (eqb code REFINE) (areFields x n y 1 z 1)
+    (cond (eqb code EFFECT) (areFields 0 1 y 1 z 1)
+    (cond (eqb code SLICE) (areFields x n y OFFSETS z WIDTHS)
+    (cond (eqb code CONCAT) (areFields x n y n z WIDTHS)
+    (cond (isUnaryCode code z) (areFields x n y 1 z WIDTHS)
+    (cond (isBinaryCode code) (areFields x n y n z 1) false)))))))
 
 -- an alias plus 1: 0, or above its node and below the count
 abbrev pub isAlias : ℕ → ℕ → ℕ → Bool
-isAlias n count alias = one (eqb alias 0) (both (ltb n (alias - 1)) (leb alias count))
+isAlias n count alias = eqb alias 0 || (ltb n (alias - 1) && leb alias count)
 
 -- node n: its type, range, alias and operation
 abbrev pub isNode : List ℕ → ℕ → ℕ → Bool
 isNode g count n =
-    both (isType (wordAt g n 0) (wordAt g n 1))
-    (both
-    (isRange (wordAt g n 0) (wordAt g n 1) (wordAt g n 2) (pair (wordAt g n 3) (wordAt g n 4)) (pair (wordAt g n 5) (wordAt g n 6)))
-    (both (isAlias n count (wordAt g n 11)) (isOperation n (wordAt g n 7) (wordAt g n 8) (wordAt g n 9) (wordAt g n 10))))
+    isType (wordAt g n TYPE) (wordAt g n WIDTH)
+    && (isRange (wordAt g n TYPE) (wordAt g n WIDTH) (wordAt g n RANGE) (pair (wordAt g n MIN) (wordAt g n (MIN + 1))) (pair (wordAt g n MAX) (wordAt g n (MAX + 1)))
+    && (isAlias n count (aliasAt g n) && isOperation n (wordAt g n OPERATION) (wordAt g n X) (wordAt g n Y) (wordAt g n Z)))
 
 -- do all numbers below m pass a test?
 abbrev pub allPass : (ℕ → Bool) → ℕ → Bool
 allPass p zero = true
-allPass p (suc m) = both (allPass p m) (p m)
+allPass p (suc m) = allPass p m && p m
 
 -- the first m nodes
 abbrev pub areNodes : List ℕ → ℕ → ℕ → Bool
@@ -64,9 +61,9 @@ areNodes g count m = allPass (isNode g count) m
 -- are all of these words 0?
 abbrev pub areZeros : List ℕ → Bool
 areZeros [] = true
-areZeros (w ∷ ws) = both (eqb w 0) (areZeros ws)
+areZeros (w ∷ ws) = eqb w 0 && areZeros ws
 
 -- its length, at most 512 nodes, each of them a node, and zeros past the count
 unfoldable pub isGraph : List ℕ → Bool
 isGraph g =
-    both (eqb (length g) REGION) (both (leb (countOf g) LIMIT) (both (areNodes g (countOf g) (countOf g)) (areZeros (drop (nodeStart (countOf g)) g))))
+    eqb (length g) REGION && (leb (countOf g) LIMIT && (areNodes g (countOf g) (countOf g) && areZeros (drop (nodeStart (countOf g)) g)))

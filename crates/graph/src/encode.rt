@@ -4,7 +4,16 @@ ghost use Rattle.word.specs.Value.{val};
 ghost use Rattle.range.specs.Interval.{intervalOf};
 ghost use Rattle.graph.specs.Node.{typeCode, opOf, wordsOf, opCode, opX, opY, opZ, rangeFlag, rangeLow, rangeHigh};
 use crate::Operation;
+use crate::layout::CONCAT;
+use crate::layout::CONSTANT;
+use crate::layout::EFFECT;
+use crate::layout::INPUT;
+use crate::layout::REFINE;
 use crate::layout::SIZE;
+use crate::layout::SLICE;
+use evaluate::code::BITS;
+use evaluate::code::BOOL;
+use evaluate::code::INTEGER;
 use evaluate::type_width;
 use range::MaybeRange;
 use range::ScalarType;
@@ -29,9 +38,9 @@ fn type_code(ty: ScalarType) -> u64
     ensures { λ r. ⌜ r ≡ typeCode ty ⌝ }
 {
     match ty {
-        ScalarType::Bool => 0,
-        ScalarType::Bits(_) => 1,
-        ScalarType::Integer => 2,
+        ScalarType::Bool => BOOL,
+        ScalarType::Bits(_) => BITS,
+        ScalarType::Integer => INTEGER,
     }
 }
 
@@ -56,26 +65,27 @@ fn fields_of(operation: Operation) -> Fields
     ensures { λ r. ⌜ (r .code ≡ opCode (opOf operation)) × (r .x ≡ opX (opOf operation)) × (r .y ≡ opY (opOf operation)) × (r .z ≡ opZ (opOf operation)) ⌝ }
 {
     match operation {
-        Operation::Constant(value) => four(0, value.lo, value.hi, 0),
-        Operation::Input(id) => four(1, id.0, 0, 0),
-        Operation::Refine(id) => four(2, id.0, 0, 0),
-        Operation::Effect(id) => four(3, id.0, 0, 0),
+        Operation::Constant(value) => make_fields(CONSTANT, value.lo, value.hi, 0),
+        Operation::Input(id) => make_fields(INPUT, id.0, 0, 0),
+        Operation::Refine(id) => make_fields(REFINE, id.0, 0, 0),
+        Operation::Effect(id) => make_fields(EFFECT, id.0, 0, 0),
         Operation::Slice {
             value,
             offset,
             width,
-        } => four(4, value.0, offset as u64, width as u64),
+        } => make_fields(SLICE, value.0, offset as u64, width as u64),
         Operation::Concat {
             high,
             low,
             low_width,
-        } => four(5, high.0, low.0, low_width as u64),
-        Operation::Unary(unary, id) => four(unary.code(), id.0, 0, unary.width() as u64),
-        Operation::Binary(binary, left, right) => four(binary.code(), left.0, right.0, 0),
+        } => make_fields(CONCAT, high.0, low.0, low_width as u64),
+        Operation::Unary(unary, id) => make_fields(unary.code(), id.0, 0, unary.width() as u64),
+        Operation::Binary(binary, left, right) => make_fields(binary.code(), left.0, right.0, 0),
     }
 }
 
-fn four(code: u64, x: u64, y: u64, z: u64) -> Fields
+// An operation's fields by their values.
+fn make_fields(code: u64, x: u64, y: u64, z: u64) -> Fields
     ensures { λ r. ⌜ (r .code ≡ code) × (r .x ≡ x) × (r .y ≡ y) × (r .z ≡ z) ⌝ }
 {
     Fields {

@@ -17,6 +17,7 @@ use crate::layout::KEY;
 use crate::layout::LIMIT;
 use crate::layout::SIZE;
 use crate::layout::WORDS;
+use crate::layout::X;
 use crate::layout::count;
 use crate::read::resolve;
 use range::MaybeRange;
@@ -42,7 +43,7 @@ fn same_key(g: &[u64], at: usize, words: &[u64; SIZE]) -> bool
     requires { ⌜ (at + KEY ≤ length (now g)) × (length (now words) ≡ WORDS) ⌝ }
     ensures { λ r. ⌜ r ≡ sameWords (now (g .entry)) at (take KEY (now (words .entry))) ⌝ }
 {
-    if g[at + 8] != words[8] {
+    if g[at + X] != words[X] {
         return false;
     }
     same_words(g, at, words)

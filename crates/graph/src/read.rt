@@ -5,17 +5,38 @@ ghost use lib.ListN.{length};
 ghost use Rattle.word.specs.Value.{val, numberOf};
 ghost use Rattle.range.specs.Interval.{intervalOf};
 ghost use Rattle.graph.specs.Layout.{REGION};
-ghost use Rattle.graph.specs.Node.{typeOf, rangeOf, unaryOf, binaryOf, operationOf, opOf, typeAt, rangeAt, operationAt, nodeOf, nodeAt};
+ghost use Rattle.graph.specs.Node.{typeOf, rangeOf, operationOf, opOf, typeAt, rangeAt, operationAt, nodeOf, nodeAt};
 ghost use Rattle.graph.specs.Insert.{literal, resolve};
 use crate::EffectId;
 use crate::InputId;
 use crate::Node;
 use crate::NodeId;
 use crate::Operation;
+use crate::layout::ALIAS;
+use crate::layout::CONCAT;
+use crate::layout::CONSTANT;
+use crate::layout::EFFECT;
+use crate::layout::INPUT;
 use crate::layout::LIMIT;
+use crate::layout::MAX;
+use crate::layout::MAX_HIGH;
+use crate::layout::MIN;
+use crate::layout::MIN_HIGH;
+use crate::layout::OPERATION;
+use crate::layout::RANGE;
+use crate::layout::REFINE;
+use crate::layout::SLICE;
+use crate::layout::TYPE;
+use crate::layout::WIDTH;
+use crate::layout::X;
+use crate::layout::Y;
+use crate::layout::Z;
 use crate::layout::word_at;
-use evaluate::Binary;
-use evaluate::Unary;
+use evaluate::code::BINARY;
+use evaluate::code::BITS;
+use evaluate::code::BOOL;
+use evaluate::code::binary_of;
+use evaluate::code::unary_of;
 use range::MaybeRange;
 use range::Range;
 use range::ScalarType;
@@ -33,8 +54,8 @@ pub(crate) fn type_of(code: u64, width: u64) -> ScalarType
     ensures { λ r. ⌜ r ≡ typeOf code width ⌝ }
 {
     match code {
-        0 => ScalarType::Bool,
-        1 => ScalarType::Bits(narrow(width)),
+        BOOL => ScalarType::Bool,
+        BITS => ScalarType::Bits(narrow(width)),
         _ => ScalarType::Integer,
     }
 }
@@ -51,67 +72,27 @@ fn range_of(flag: u64, min: Word, max: Word) -> MaybeRange
     })
 }
 
-pub fn unary_of(code: u64, width: u16) -> Unary
-    ensures { λ r. ⌜ r ≡ unaryOf code width ⌝ }
-{
-    match code {
-        11 => Unary::BitNot,
-        12 => Unary::Negate,
-        13 => Unary::Truncate(width),
-        14 => Unary::SignExtend(width),
-        15 => Unary::LeadingZeros(width),
-        16 => Unary::TrailingZeros(width),
-        _ => Unary::BoolNot,
-    }
-}
-
-pub fn binary_of(code: u64) -> Binary
-    ensures { λ r. ⌜ r ≡ binaryOf code ⌝ }
-{
-    match code {
-        21 => Binary::Sub,
-        22 => Binary::Mul,
-        23 => Binary::And,
-        24 => Binary::Or,
-        25 => Binary::Xor,
-        26 => Binary::ShiftLeft,
-        27 => Binary::ShiftRight,
-        28 => Binary::ArithmeticShiftRight,
-        29 => Binary::Equal,
-        30 => Binary::NotEqual,
-        31 => Binary::LessSigned,
-        32 => Binary::LessUnsigned,
-        33 => Binary::LessEqualSigned,
-        34 => Binary::LessEqualUnsigned,
-        35 => Binary::DivideSigned,
-        36 => Binary::RemainderSigned,
-        37 => Binary::DivideUnsigned,
-        38 => Binary::RemainderUnsigned,
-        _ => Binary::Add,
-    }
-}
-
-// The operation of a code and its three fields; an unknown code below 20 is taken for a unary one, another for Add.
+// The operation of a code and its three fields; an unknown code below BINARY is taken for BoolNot, another for Add.
 fn operation_of(code: u64, x: u64, y: u64, z: u64) -> Operation
     ensures { λ r. ⌜ opOf r ≡ operationOf code x y z ⌝ }
 {
     match code {
-        0 => Operation::Constant(Word { lo: x, hi: y }),
-        1 => Operation::Input(InputId(x)),
-        2 => Operation::Refine(NodeId(x)),
-        3 => Operation::Effect(EffectId(x)),
-        4 => Operation::Slice {
+        CONSTANT => Operation::Constant(Word { lo: x, hi: y }),
+        INPUT => Operation::Input(InputId(x)),
+        REFINE => Operation::Refine(NodeId(x)),
+        EFFECT => Operation::Effect(EffectId(x)),
+        SLICE => Operation::Slice {
             value: NodeId(x),
             offset: narrow(y),
             width: narrow(z),
         },
-        5 => Operation::Concat {
+        CONCAT => Operation::Concat {
             high: NodeId(x),
             low: NodeId(y),
             low_width: narrow(z),
         },
         _ => {
-            if code < 20 {
+            if code < BINARY {
                 Operation::Unary(unary_of(code, narrow(z)), NodeId(x))
             } else {
                 Operation::Binary(binary_of(code), NodeId(x), NodeId(y))
@@ -125,7 +106,7 @@ pub fn type_at(g: &[u64], id: NodeId) -> ScalarType
     ensures { λ r. ⌜ r ≡ typeAt (now (g .entry)) (id .0) ⌝ }
 {
     let n = id.0;
-    type_of(word_at(g, n, 0), word_at(g, n, 1))
+    type_of(word_at(g, n, TYPE), word_at(g, n, WIDTH))
 }
 
 pub fn range_at(g: &[u64], id: NodeId) -> MaybeRange
@@ -134,14 +115,14 @@ pub fn range_at(g: &[u64], id: NodeId) -> MaybeRange
 {
     let n = id.0;
     let min = Word {
-        lo: word_at(g, n, 3),
-        hi: word_at(g, n, 4),
+        lo: word_at(g, n, MIN),
+        hi: word_at(g, n, MIN_HIGH),
     };
     let max = Word {
-        lo: word_at(g, n, 5),
-        hi: word_at(g, n, 6),
+        lo: word_at(g, n, MAX),
+        hi: word_at(g, n, MAX_HIGH),
     };
-    range_of(word_at(g, n, 2), min, max)
+    range_of(word_at(g, n, RANGE), min, max)
 }
 
 pub fn operation_at(g: &[u64], id: NodeId) -> Operation
@@ -150,10 +131,10 @@ pub fn operation_at(g: &[u64], id: NodeId) -> Operation
 {
     let n = id.0;
     operation_of(
-        word_at(g, n, 7),
-        word_at(g, n, 8),
-        word_at(g, n, 9),
-        word_at(g, n, 10),
+        word_at(g, n, OPERATION),
+        word_at(g, n, X),
+        word_at(g, n, Y),
+        word_at(g, n, Z),
     )
 }
 
@@ -177,10 +158,10 @@ pub fn literal(g: &[u64], id: NodeId) -> MaybeWord
     ensures { λ r. ⌜ numberOf r ≡ literal (now (g .entry)) (id .0) ⌝ }
 {
     let n = id.0;
-    if word_at(g, n, 7) == 0 {
+    if word_at(g, n, OPERATION) == CONSTANT {
         MaybeWord::Some(Word {
-            lo: word_at(g, n, 8),
-            hi: word_at(g, n, 9),
+            lo: word_at(g, n, X),
+            hi: word_at(g, n, Y),
         })
     } else {
         MaybeWord::None
@@ -195,7 +176,7 @@ pub fn resolve(g: &[u64], id: NodeId) -> NodeId
     let mut at = id.0;
     let mut left = LIMIT;
     while 0 < left {
-        let alias = word_at(g, at, 11);
+        let alias = word_at(g, at, ALIAS);
         if alias == 0 {
             return NodeId(at);
         }

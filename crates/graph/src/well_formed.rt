@@ -4,12 +4,39 @@ ghost use lib.ListN.{length, drop};
 ghost use Rattle.word.specs.Value.{val};
 ghost use Rattle.graph.specs.Layout.{REGION};
 ghost use Rattle.graph.specs.WellFormed.{isType, isRange, areFields, isOperation, isAlias, isNode, areNodes, areZeros, isGraph};
+use crate::layout::ALIAS;
+use crate::layout::CONCAT;
+use crate::layout::CONSTANT;
+use crate::layout::EFFECT;
 use crate::layout::FIRST;
+use crate::layout::INPUT;
 use crate::layout::LIMIT;
+use crate::layout::MAX;
+use crate::layout::MAX_HIGH;
+use crate::layout::MIN;
+use crate::layout::MIN_HIGH;
+use crate::layout::OPERATION;
+use crate::layout::RANGE;
+use crate::layout::REFINE;
 use crate::layout::REGION;
+use crate::layout::SLICE;
+use crate::layout::TYPE;
+use crate::layout::WIDTH;
 use crate::layout::WORDS;
+use crate::layout::X;
+use crate::layout::Y;
+use crate::layout::Z;
 use crate::layout::word_at;
 use crate::read::type_of;
+use evaluate::code::BITS;
+use evaluate::code::BOOL;
+use evaluate::code::INTEGER;
+use evaluate::code::OFFSETS;
+use evaluate::code::UNARY;
+use evaluate::code::WIDEST_WORD;
+use evaluate::code::WIDTHS;
+use evaluate::code::is_binary_code;
+use evaluate::code::is_unary_code;
 use range::Range;
 use word::Word;
 
@@ -17,9 +44,9 @@ fn is_type(code: u64, width: u64) -> bool
     ensures { λ r. ⌜ r ≡ isType code width ⌝ }
 {
     match code {
-        0 => width == 0,
-        1 => width <= 128,
-        2 => width == 0,
+        BOOL => width == 0,
+        BITS => width <= WIDEST_WORD,
+        INTEGER => width == 0,
         _ => false,
     }
 }
@@ -59,36 +86,28 @@ fn are_fields(x: u64, xlimit: u64, y: u64, ylimit: u64, z: u64, zlimit: u64) -> 
     }
 }
 
-// An operation of node n: operands below n, widths at most 128, unused fields 0.
+// An operation of node n: operands below n, offsets below OFFSETS, widths at most WIDEST, unused fields 0.
 fn is_operation(n: u64, code: u64, x: u64, y: u64, z: u64) -> bool
     ensures { λ r. ⌜ r ≡ isOperation n code x y z ⌝ }
 {
-    if code < 10 {
+    if code < UNARY {
         match code {
-            0 => z == 0,
-            1 => are_fields(0, 1, y, 1, z, 1),
-            2 => are_fields(x, n, y, 1, z, 1),
-            3 => are_fields(0, 1, y, 1, z, 1),
-            4 => are_fields(x, n, y, 128, z, 129),
-            5 => are_fields(x, n, y, n, z, 129),
+            CONSTANT => z == 0,
+            INPUT => are_fields(0, 1, y, 1, z, 1),
+            REFINE => are_fields(x, n, y, 1, z, 1),
+            EFFECT => are_fields(0, 1, y, 1, z, 1),
+            SLICE => are_fields(x, n, y, OFFSETS, z, WIDTHS),
+            CONCAT => are_fields(x, n, y, n, z, WIDTHS),
             _ => false,
         }
     } else {
-        if code < 13 {
-            are_fields(x, n, y, 1, z, 1)
+        if is_unary_code(code, z) {
+            return are_fields(x, n, y, 1, z, WIDTHS);
+        }
+        if is_binary_code(code) {
+            are_fields(x, n, y, n, z, 1)
         } else {
-            if code < 17 {
-                are_fields(x, n, y, 1, z, 129)
-            } else {
-                if code < 20 {
-                    return false;
-                }
-                if code < 39 {
-                    are_fields(x, n, y, n, z, 1)
-                } else {
-                    false
-                }
-            }
+            false
         }
     }
 }
@@ -107,31 +126,31 @@ fn is_node(g: &[u64], n: u64, nodes: u64) -> bool
     requires { ⌜ length (now g) ≡ REGION ⌝ }
     ensures { λ r. ⌜ r ≡ isNode (now (g .entry)) nodes n ⌝ }
 {
-    let code = word_at(g, n, 0);
-    let width = word_at(g, n, 1);
+    let code = word_at(g, n, TYPE);
+    let width = word_at(g, n, WIDTH);
     if !is_type(code, width) {
         return false;
     }
     let min = Word {
-        lo: word_at(g, n, 3),
-        hi: word_at(g, n, 4),
+        lo: word_at(g, n, MIN),
+        hi: word_at(g, n, MIN_HIGH),
     };
     let max = Word {
-        lo: word_at(g, n, 5),
-        hi: word_at(g, n, 6),
+        lo: word_at(g, n, MAX),
+        hi: word_at(g, n, MAX_HIGH),
     };
-    if !is_range(code, width, word_at(g, n, 2), min, max) {
+    if !is_range(code, width, word_at(g, n, RANGE), min, max) {
         return false;
     }
-    if !is_alias(n, nodes, word_at(g, n, 11)) {
+    if !is_alias(n, nodes, word_at(g, n, ALIAS)) {
         return false;
     }
     is_operation(
         n,
-        word_at(g, n, 7),
-        word_at(g, n, 8),
-        word_at(g, n, 9),
-        word_at(g, n, 10),
+        word_at(g, n, OPERATION),
+        word_at(g, n, X),
+        word_at(g, n, Y),
+        word_at(g, n, Z),
     )
 }
 

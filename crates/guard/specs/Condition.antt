@@ -4,7 +4,7 @@ use mathlib.Core.List.{List}
 use mathlib.Core.Option.{Option, none, some}
 use Prim.Native.Nat.{ℕ, zero, suc}
 use lib.Dec.{eqb}
-use Rattle.word.specs.Value.{only}
+use Rattle.word.specs.Option.{only, given}
 use Rattle.evaluate.specs.Operator.{unaryCode}
 use Rattle.evaluate.specs.declared.Unary.the-variants as un
 use Rattle.evaluate.specs.declared.Binary.{Binary}
@@ -12,7 +12,7 @@ use Rattle.graph.specs.Layout.{LIMIT}
 use Rattle.graph.specs.Node as node
 use Rattle.graph.specs.Node.{Op, operationAt}
 use Rattle.fold.specs.Operator.{comparisons}
-use Rattle.fold.specs.Shape.{given, isAny}
+use Rattle.fold.specs.Shape.{isAny}
 use Rattle.guard.specs.declared.Condition as declared-condition
 use Rattle.guard.specs.declared.Comparison as declared-comparison
 use Rattle.guard.specs.declared.MaybeComparison as declared

@@ -1,14 +1,12 @@
 -- A guard: a comparison of two nodes with what is expected of it, and whether two values match it (linear.rs 12 to 71).
-use mathlib.Core.Bool.{Bool, cond, not}
+use mathlib.Core.Bool.{Bool, cond, not, _&&_}
 use mathlib.Core.List.{List}
 use mathlib.Core.Option.{Option, none, some}
 use Prim.Native.Nat.{ℕ, _%_, _^_}
 use lib.Dec.{eqb, ltb, leb}
-use Rattle.word.specs.Value.{provided, only}
-use Rattle.range.specs.Interval.{both}
+use Rattle.word.specs.Option.{only, provided, mapped}
 use Rattle.range.specs.declared.ScalarType.the-variants as ty
-use Rattle.evaluate.specs.Evaluate.{mapped, evaluateBinary}
-use Rattle.evaluate.specs.Operator.{refusalNumber}
+use Rattle.evaluate.specs.Evaluate.{binaryValue}
 use Rattle.evaluate.specs.declared.Binary.{Binary}
 use Rattle.evaluate.specs.declared.Binary.the-variants as bi
 use Rattle.graph.specs.Node.{rangeAt}
@@ -20,6 +18,8 @@ use Rattle.guard.specs.declared.MaybeGuard.the-variants as guards
 use Rattle.guard.specs.declared.Matched as declared-matched
 use Rattle.guard.specs.declared.Matched.the-variants as matches
 use Rattle.guard.specs.Condition.{behindNots, Comparison, comparisonAt}
+use Rattle.answer.specs.declared.Refusal.{Refusal}
+use Rattle.answer.specs.declared.Refusal.the-variants as refusal
 
 -- a comparison of two nodes, what is expected of it, and whether 64 bits of each value suffice
 pub record Guard : Type 0 where
@@ -50,7 +50,7 @@ guardBy c e host = record { op = cond host (unsignedFor (c .op)) (c .op); left =
 
 -- do the ranges of both operands lie in 0 to 2 ^ 64 - 1?
 abbrev pub fitHost : List ℕ → Comparison → Bool
-fitHost g c = both (fits 64 (rangeAt g (c .left))) (fits 64 (rangeAt g (c .right)))
+fitHost g c = fits 64 (rangeAt g (c .left)) && fits 64 (rangeAt g (c .right))
 
 -- the comparison behind the BoolNots; none if there is no comparison
 unfoldable pub guarded : List ℕ → ℕ → Bool → Option Guard
@@ -72,7 +72,7 @@ hostCompared o a b =
 
 -- two patterns compared, by any comparison
 abbrev pub wideCompared : Binary → ℕ → ℕ → Option Bool
-wideCompared o a b = provided (isAny comparisons o) (mapped (λ v. not (eqb v 0)) (evaluateBinary o ty.Bool a b))
+wideCompared o a b = provided (isAny comparisons o) (mapped (λ v. not (eqb v 0)) (binaryValue o ty.Bool a b))
 
 -- what the comparison says of two values; none for an operator that is no comparison, or with host64 a signed one
 abbrev pub compared : Guard → ℕ → ℕ → Option Bool
@@ -82,19 +82,19 @@ compared q a b = cond (q .host64) (hostCompared (q .op) (a % 2 ^ 64) (b % 2 ^ 64
 unfoldable pub matched : Guard → ℕ → ℕ → Option Bool
 matched q a b = mapped (sameBool (q .expected)) (compared q a b)
 
--- true or false, or a refusal by its number
+-- true or false, or a refusal
 pub data Match : Type 0 where
   is : Bool → Match
-  refused : ℕ → Match
+  refused : Refusal → Match
 
 -- what a Matched stands for
 abbrev pub matchOf : declared-matched.Matched → Match
 matchOf (matches.Is b) = is b
-matchOf (matches.Refused r) = refused (refusalNumber r)
+matchOf (matches.Refused r) = refused r
 
 -- no answer is a no to question 4
 abbrev pub answered : Option Bool → Match
-answered none = refused 4
+answered none = refused refusal.Typing
 answered (some b) = is b
 
 -- the call matches

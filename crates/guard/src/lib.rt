@@ -3,8 +3,8 @@ pub mod guarded;
 pub mod matches;
 pub mod reading;
 
+use answer::Refusal;
 use evaluate::Binary;
-use evaluate::Refusal;
 use graph::NodeId;
 
 // A node, and what is expected of it.

@@ -1,24 +1,19 @@
 -- Answers that may be none, and tests: what one says that is there, or true, and what holds of each. Assumes nothing.
 use mathlib.Core.Path.{_≡_, refl, sym, ap, _∙_, subst}
-use mathlib.Core.Bool.{Bool, true, false, cond, false≢true}
+use mathlib.Core.Bool.{Bool, true, false, cond, not, _||_, false≢true}
 use mathlib.Core.List.{List, [], _∷_}
 use mathlib.Core.Logic.{⊎-elim}
 use mathlib.Core.Option.{Option, none, some}
+use Rattle.word.specs.Option.{provided, mapped, given, bothGiven, orElse, isSome}
 use borrow.Author.Tests.{eqb-true}
-use Rattle.word.specs.Value.{provided}
 use Rattle.range.specs.Interval.{Interval}
 use Rattle.range.proofs.Answers.{none-some, some-is}
 use Rattle.range.proofs.Sound.{either}
-use Rattle.evaluate.specs.Evaluate.{mapped}
-use Rattle.evaluate.specs.Operator.{binaryCode}
+use Rattle.evaluate.specs.Operator.{binaryCode, binaryOf, binaries}
 use Rattle.evaluate.specs.declared.Binary.{Binary}
-use Rattle.evaluate.specs.declared.Binary.the-variants as bi
-use Rattle.graph.specs.Node.{binaryOf}
-use Rattle.graph.specs.Insert.{orElse}
-use Rattle.fold.specs.Range.{bothGiven}
-use Rattle.fold.specs.Shape.{given, sameBinary, isAny}
+use Rattle.fold.specs.Shape.{sameBinary, isAny}
 use Rattle.plan.specs.Plan.{Plan}
-use Rattle.plan_binary.specs.Binary.{orPlan}
+use Rattle.evaluate.proofs.Codes.{binary-back, all, by-binaries}
 
 -- ---- an answer that is there
 
@@ -74,7 +69,7 @@ module _ {A : Type 0} (P : A → Type 0) where
   each-mapped f o h a e = let (b, p, q) = mapped-is f o e in subst P q (h b p)
 
 -- a plan, or else another
-pub each-or : (P : Plan → Type 0) (a : Option Plan) {b : Option Plan} → Each P a → Each P b → Each P (orPlan a b)
+pub each-or : (P : Plan → Type 0) (a : Option Plan) {b : Option Plan} → Each P a → Each P b → Each P (orElse a b)
 each-or P none f h = h
 each-or P (some p) f h = f
 
@@ -85,37 +80,41 @@ each-else P (some r) f h = f
 
 -- ---- tests of operators
 
-code-back : (b : Binary) → binaryOf (binaryCode b) ≡ b
-code-back bi.Add = refl
-code-back bi.Sub = refl
-code-back bi.Mul = refl
-code-back bi.And = refl
-code-back bi.Or = refl
-code-back bi.Xor = refl
-code-back bi.ShiftLeft = refl
-code-back bi.ShiftRight = refl
-code-back bi.ArithmeticShiftRight = refl
-code-back bi.Equal = refl
-code-back bi.NotEqual = refl
-code-back bi.LessSigned = refl
-code-back bi.LessUnsigned = refl
-code-back bi.LessEqualSigned = refl
-code-back bi.LessEqualUnsigned = refl
-code-back bi.DivideSigned = refl
-code-back bi.RemainderSigned = refl
-code-back bi.DivideUnsigned = refl
-code-back bi.RemainderUnsigned = refl
-
 pub binary-is : (a b : Binary) → sameBinary a b ≡ true → a ≡ b
-binary-is a b e = sym (code-back a) ∙ ap binaryOf (eqb-true (binaryCode a) (binaryCode b) e) ∙ code-back b
+binary-is a b e = sym (binary-back a) ∙ ap binaryOf (eqb-true (binaryCode a) (binaryCode b) e) ∙ binary-back b
 
--- what holds of every operator of a list holds of any of them
-abbrev pub Every : (Binary → Type 0) → List Binary → Type 0
+-- what holds of every operator of a list
+abbrev Every : (Binary → Type 0) → List Binary → Type 0
 Every P [] = Unit {0}
 Every P (a ∷ rest) = P a × Every P rest
 
-pub of-any : (P : Binary → Type 0) (os : List Binary) → Every P os → (o : Binary) → isAny os o ≡ true → P o
-of-any P [] h o e = absurd (false≢true e)
-of-any P (a ∷ rest) h o e =
-    ⊎-elim (λ (q : sameBinary o a ≡ true). subst P (sym (binary-is o a q)) (h .0)) (λ (q : isAny rest o ≡ true). of-any P rest (h .1) o q)
-    (either (sameBinary o a) (isAny rest o) e)
+-- R, given that of each operator
+abbrev pub Cases : (Binary → Type 0) → List Binary → Type 0 → Type 0
+Cases P [] R = R
+Cases P (a ∷ rest) R = P a → Cases P rest R
+
+module _ (P : Binary → Type 0) where
+  holds-of : (os : List Binary) → Every P os → (o : Binary) → isAny os o ≡ true → P o
+  holds-of [] h o e = absurd (false≢true e)
+  holds-of (a ∷ rest) h o e =
+      ⊎-elim (λ (q : sameBinary o a ≡ true). subst P (sym (binary-is o a q)) (h .0)) (λ (q : isAny rest o ≡ true). holds-of rest (h .1) o q)
+      (either (sameBinary o a) (isAny rest o) e)
+
+  curried : (os : List Binary) (R : Type 0) → (Every P os → R) → Cases P os R
+  curried [] R f = f tt
+  curried (a ∷ rest) R f = λ h. curried rest R (λ t. f (h, t))
+
+  -- what holds of every operator of a list holds of any of them
+  pub of-any : (os : List Binary) → Cases P os ((o : Binary) → isAny os o ≡ true → P o)
+  of-any os = curried os _ (holds-of os)
+
+-- an operator that passes a test is one of a list, if no other does
+pub among : (os : List Binary) (f : Binary → Bool) → all (λ o. isAny os o || not (f o)) binaries ≡ true → (o : Binary) → f o ≡ true → isAny os o ≡ true
+among os f h o e =
+    ⊎-elim (λ (q : isAny os o ≡ true). q) (λ (q : not (f o) ≡ true). absurd (false≢true (sym (ap not e) ∙ q)))
+    (either (isAny os o) (not (f o)) (by-binaries (λ o. isAny os o || not (f o)) h o))
+
+-- one with an answer, if no other has one
+pub answering : {A : Type 0} (os : List Binary) (f : Binary → Option A) → all (λ o. isAny os o || not (isSome (f o))) binaries ≡ true → (o : Binary) {a : A}
+    → f o ≡ some a → isAny os o ≡ true
+answering os f h o e = among os (λ o. isSome (f o)) h o (ap isSome e)

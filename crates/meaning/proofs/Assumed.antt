@@ -11,6 +11,7 @@ use lib.Dec.{eqb}
 use lib.IntN.{ℤ, pos, negℤ, _+ℤ_, _-ℤ_}
 use lib.Signed.{ltZ, leZ, _≤ℤ_}
 use Rattle.word.specs.Value.{signed, residue, eqZ}
+use Rattle.word.specs.Option.{fromBool}
 use Rattle.word.proofs.Integer.{residue-signed}
 use Rattle.word.proofs.Orders.{le-not-less}
 use Rattle.range.specs.Interval.{Interval, _∈_}
@@ -18,24 +19,23 @@ use Rattle.range.specs.declared.ScalarType.{ScalarType}
 use Rattle.range.specs.declared.ScalarType.the-variants as ty
 use Rattle.range.proofs.Order.{up, down, orders, less-true, sum-parts}
 use Rattle.range.proofs.Sound.{tests}
-use Rattle.range.proofs.Answers.{none-some, some-is, provided-is}
-use Rattle.evaluate.specs.Evaluate.{fromBool, evaluateUnary, evaluateBinary}
-use Rattle.evaluate.specs.declared.Unary.{Unary}
+use Rattle.evaluate.specs.Evaluate.{unaryValue, binaryValue}
 use Rattle.evaluate.specs.declared.Unary.the-variants as un
 use Rattle.evaluate.specs.declared.Binary.{Binary}
 use Rattle.graph.specs.Layout.{LIMIT, countOf}
 use Rattle.graph.specs.Node as node
-use Rattle.graph.specs.Node.{Op, typeAt, rangeAt, operationAt}
+use Rattle.graph.specs.Node.{typeAt, rangeAt, operationAt}
 use Rattle.graph.specs.Insert.{resolve}
 use Rattle.fold.specs.Operator.{comparisons}
 use Rattle.fold.specs.Shape.{isAny}
-use Rattle.guard.specs.Condition.{Condition, negatedOf, negatedAt, behind, behindNots, Comparison, comparedBy, comparisonAt}
+use Rattle.guard.specs.Condition.{Condition, negatedAt, behind, behindNots, Comparison, comparisonAt}
 use Rattle.assume.specs.Limits.{Pair, oneMore, oneLess, lessLimits, notLessLimits, lessEqualLimits, greaterLimits, equalLimits, besides, apartLimits, comparable, limitsBy}
 use Rattle.assume.specs.Refine.{Outcome, unchanged, narrowed, full, Assumed, refined}
 use Rattle.assume.specs.Assume.{thenRefined, refinedBoth, assumedBy, assumedOf, assumedGuard}
 use Rattle.meaning.specs.Value.{size, integerOf, ofType, valued, binaryMeans}
 use Rattle.meaning.proofs.Worlds.{World, value}
 use Rattle.meaning.proofs.Values.{typed-is, then-is}
+use Rattle.meaning.proofs.Guards.{comparison-is, negated-is}
 use Rattle.meaning.proofs.Answers.{by-test, by-given, of-any, Each, each-none, each-some, each-provided}
 use Rattle.meaning.proofs.Invariant.{Inv, resolve-leads, Kept, kept-refl, kept-trans}
 use Rattle.meaning.proofs.Views.{same-type, value-small, value-pattern}
@@ -120,7 +120,7 @@ truth-is false false e = refl
 module _ (x y : ℕ) (a b : Interval) (l : x < 2 ^ 128) (m : y < 2 ^ 128) (f : (signed 128 x) ∈ a) (g : (signed 128 y) ∈ b) where
   -- an operator's comparison is as expected, so that both lie between the limits by the other's range
   abbrev Says : Binary → Type 0
-  Says o = (e : Bool) → evaluateBinary o ty.Bool x y ≡ some (fromBool e) → comparable o a b ≡ true → Obey (signed 128 x) (signed 128 y) (limitsBy o e a b)
+  Says o = (e : Bool) → binaryValue o ty.Bool x y ≡ some (fromBool e) → comparable o a b ≡ true → Obey (signed 128 x) (signed 128 y) (limitsBy o e a b)
 
   -- whether both are equal is known
   equal-says : (e : Bool) → eqb x y ≡ e → Obey (signed 128 x) (signed 128 y) (cond e (equalLimits a b) (apartLimits a b))
@@ -143,21 +143,14 @@ module _ (x y : ℕ) (a b : Interval) (l : x < 2 ^ 128) (m : y < 2 ^ 128) (f : (
 
   -- every comparison
   compared-obey : (o : Binary) → isAny comparisons o ≡ true → Says o
-  unfolding evaluateBinary limitsBy
+  unfolding binaryValue limitsBy
   compared-obey =
-      of-any Says comparisons (
-        λ e p c. less-obey (signed 128 x) (signed 128 y) a b f g e (truth-is _ e p),
-        (
-          λ e p c. let u = unsigned x y a b l m f g c in less-obey (signed 128 x) (signed 128 y) a b f g e ((λ i. ltZ (u .0 i) (u .1 i)) ∙ truth-is _ e p),
-          (
-            λ e p c. at-most-obey (signed 128 x) (signed 128 y) a b f g e (truth-is _ e p),
-            (
-              λ e p c. let u = unsigned x y a b l m f g c in at-most-obey (signed 128 x) (signed 128 y) a b f g e ((λ i. leZ (u .0 i) (u .1 i)) ∙ truth-is _ e p),
-              (λ e p c. equal-says e (truth-is _ e p), (λ e p c. apart-says e (truth-is _ e p), tt)),
-            ),
-          ),
-        ),
-      )
+      of-any Says comparisons
+      (λ e p c. less-obey (signed 128 x) (signed 128 y) a b f g e (truth-is _ e p))
+      (λ e p c. let u = unsigned x y a b l m f g c in less-obey (signed 128 x) (signed 128 y) a b f g e ((λ i. ltZ (u .0 i) (u .1 i)) ∙ truth-is _ e p))
+      (λ e p c. at-most-obey (signed 128 x) (signed 128 y) a b f g e (truth-is _ e p))
+      (λ e p c. let u = unsigned x y a b l m f g c in at-most-obey (signed 128 x) (signed 128 y) a b f g e ((λ i. leZ (u .0 i) (u .1 i)) ∙ truth-is _ e p))
+      (λ e p c. equal-says e (truth-is _ e p)) (λ e p c. apart-says e (truth-is _ e p))
 
 -- ---- behind BoolNots
 
@@ -166,27 +159,6 @@ record Expects (ρ : World) (g : List ℕ) (c : Condition) : Type 0 where
   here : c .node < countOf g
   type : typeAt g (c .node) ≡ ty.Bool
   means : ρ .sure → value ρ g (c .node) ≡ some (fromBool (c .expected))
-
--- only a BoolNot is taken off
-negated-unary : (u : Unary) (i j : ℕ) → negatedOf (node.unary u i) ≡ some j → node.unary u i ≡ node.unary un.BoolNot j
-negated-unary un.BoolNot i j e = ap (node.unary un.BoolNot) (some-is e)
-negated-unary un.BitNot i j e = absurd (none-some e)
-negated-unary un.Negate i j e = absurd (none-some e)
-negated-unary (un.Truncate w) i j e = absurd (none-some e)
-negated-unary (un.SignExtend w) i j e = absurd (none-some e)
-negated-unary (un.LeadingZeros w) i j e = absurd (none-some e)
-negated-unary (un.TrailingZeros w) i j e = absurd (none-some e)
-
--- of any operation
-negated-is : (o : Op) (j : ℕ) → negatedOf o ≡ some j → o ≡ node.unary un.BoolNot j
-negated-is (node.constant c) j e = absurd (none-some e)
-negated-is (node.input i) j e = absurd (none-some e)
-negated-is (node.refine i) j e = absurd (none-some e)
-negated-is (node.effect i) j e = absurd (none-some e)
-negated-is (node.slice i o w) j e = absurd (none-some e)
-negated-is (node.concat i k w) j e = absurd (none-some e)
-negated-is (node.unary u i) j e = negated-unary u i j e
-negated-is (node.binary o i k) j e = absurd (none-some e)
 
 -- the operand of a BoolNot has the other value
 other : (x : ℕ) (e : Bool) → x < 2 → fromBool e ≡ fromBool (eqb x 0) → x ≡ fromBool (not e)
@@ -205,7 +177,7 @@ condition n e = record { node = n; expected = e }
 module _ {ρ : World} {g : List ℕ} (i : Inv ρ g) where
   -- one BoolNot
   negated-expects : (n j : ℕ) (e : Bool) → negatedAt g n ≡ some j → Expects ρ g (condition n e) → Expects ρ g (condition j (not e))
-  unfolding negatedAt evaluateUnary
+  unfolding negatedAt unaryValue
   negated-expects n j e q c =
       let o = negated-is (operationAt g n) j q in
       let b = below-at ρ g i n (c .here) (node.unary un.BoolNot j) o in
@@ -227,20 +199,6 @@ module _ {ρ : World} {g : List ℕ} (i : Inv ρ g) where
   behind-expects (suc k) n e c = by-given (Expects ρ g) (negatedAt g n) (λ j q. behind-expects k j (not e) (negated-expects n j e q c)) (λ q. c)
 
 -- ---- the comparison
-
--- a node that is a comparison
-compared-is : (o : Op) (c : Comparison) → comparedBy o ≡ some c → (o ≡ node.binary (c .op) (c .left) (c .right)) × (isAny comparisons (c .op) ≡ true)
-compared-is (node.constant k) c e = absurd (none-some e)
-compared-is (node.input j) c e = absurd (none-some e)
-compared-is (node.refine j) c e = absurd (none-some e)
-compared-is (node.effect j) c e = absurd (none-some e)
-compared-is (node.slice j o w) c e = absurd (none-some e)
-compared-is (node.concat j k w) c e = absurd (none-some e)
-compared-is (node.unary u j) c e = absurd (none-some e)
-compared-is (node.binary o j k) c e =
-    let p = provided-is (isAny comparisons o) _ e in
-    let s : record { op = o; left = j; right = k } ≡ c = some-is (p .1) in
-    (ap (λ (d : Comparison). node.binary (d .op) (d .left) (d .right)) s, subst (λ (d : Comparison). isAny comparisons (d .op) ≡ true) s (p .0))
 
 module _ {ρ : World} {g : List ℕ} (i : Inv ρ g) where
   -- the left operand is refined, and then the right one on what is left
@@ -269,7 +227,7 @@ module _ {ρ : World} {g : List ℕ} (i : Inv ρ g) where
     -- what it is
     is : (operationAt g n ≡ node.binary (c .op) (c .left) (c .right)) × (isAny comparisons (c .op) ≡ true)
     unfolding comparisonAt
-    is = compared-is (operationAt g n) c q
+    is = let (s, o) = comparison-is (operationAt g n) c q in (o, s)
 
     -- its operands are nodes
     below : (c .left < countOf g) × (c .right < countOf g)
@@ -297,8 +255,8 @@ module _ {ρ : World} {g : List ℕ} (i : Inv ρ g) where
           let s = operands ρ g ty.Bool (c .op) (c .left) (c .right) (fromBool e) m in
           let lu : value ρ g left ≡ some (s .x) = l .means ∙ s .left in
           let rv : value ρ g right ≡ some (s .y) = r .means ∙ s .right in
-          let k = then-is (evaluateBinary (c .op) ty.Bool (s .x) (s .y)) (ofType ty.Bool) (fromBool e) (s .means) in
-          let z : evaluateBinary (c .op) ty.Bool (s .x) (s .y) ≡ some (fromBool e) = k .1 ∙ ap some (sym (typed-is ty.Bool (k .0) (fromBool e) (k .2) .0)) in
+          let k = then-is (binaryValue (c .op) ty.Bool (s .x) (s .y)) (ofType ty.Bool) (fromBool e) (s .means) in
+          let z : binaryValue (c .op) ty.Bool (s .x) (s .y) ≡ some (fromBool e) = k .1 ∙ ap some (sym (typed-is ty.Bool (k .0) (fromBool e) (k .2) .0)) in
           let f = i .ranged left (l .here) sure (s .x) lu a ea in
           let h = i .ranged right (r .here) sure (s .y) rv b eb in
           let p = read (typeAt g left) (s .x) a f (i .ends left (l .here) a ea) in

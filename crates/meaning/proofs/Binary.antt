@@ -1,6 +1,6 @@
 -- binary: the masked comparison, the stored node, and all its decisions in their order. Assumes nothing.
 use mathlib.Core.Path.{_≡_, refl, sym, ap, _∙_, subst}
-use mathlib.Core.Bool.{Bool, true, not}
+use mathlib.Core.Bool.{Bool, true, not, _&&_}
 use mathlib.Core.List.{List}
 use mathlib.Core.Logic.{⊎-elim}
 use mathlib.Core.Option.{Option, none, some}
@@ -10,13 +10,13 @@ use native.Mathlib.Omega.{arith}
 use borrow.Author.Tests.{eq-eqb, eqb-true}
 use lib.Bits.{bitAnd}
 use lib.Dec.{eqb}
-use Rattle.word.specs.Value.{provided}
-use Rattle.range.specs.Interval.{Interval, both}
+use Rattle.word.specs.Option.{provided, given, isSome, orElse}
+use Rattle.range.specs.Interval.{Interval}
 use Rattle.range.specs.declared.ScalarType.{ScalarType}
 use Rattle.range.specs.declared.ScalarType.the-variants as ty
 use Rattle.range.proofs.Sound.{tests}
 use Rattle.range.proofs.Answers.{none-some, some-is, provided-is}
-use Rattle.evaluate.specs.Evaluate.{reduced, evaluateBinary}
+use Rattle.evaluate.specs.Evaluate.{reduced, binaryValue}
 use Rattle.evaluate.specs.Operator.{typeWidth}
 use Rattle.evaluate.specs.declared.Binary.{Binary}
 use Rattle.evaluate.specs.declared.Binary.the-variants as bi
@@ -24,18 +24,18 @@ use Rattle.graph.specs.Layout.{countOf}
 use Rattle.graph.specs.Node as node
 use Rattle.graph.specs.Node.{typeAt, rangeAt}
 use Rattle.graph.specs.Insert.{literal}
-use Rattle.bitfield.specs.Bitfield.{Mask, found, lookAt, maskedComparison}
+use Rattle.bitfield.specs.Bitfield.{Mask, found, lookAt, foldMaskedComparison}
 use Rattle.fold.specs.Operator.{equalities}
-use Rattle.fold.specs.Range.{binaryRange}
-use Rattle.fold.specs.Shape.{given, sameType, isAny, isSome}
+use Rattle.fold.specs.Range.{binaryRange, rangedAt}
+use Rattle.fold.specs.Shape.{sameType, isAny}
 use Rattle.plan.specs.Plan as plan
 use Rattle.plan.specs.Plan.{Plan, First, tries, binaryRest, constantOr}
-use Rattle.plan_binary.specs.Binary.{isSwapped, evaluated, shiftPlan, offsetPlan, comparedPlan, twice, rightPlan, orPlan, literalPlan, decidedPlan, sumPlan, storePlan, binaryPlan, equalityFirst, openFirst, binaryFirst}
+use Rattle.plan_binary.specs.Binary.{isSwapped, evaluated, shiftPlan, offsetPlan, comparedPlan, withItself, rightPlan, literalPlan, decidedPlan, sumPlan, storePlan, binaryPlan, equalityFirst, openFirst, binaryFirst}
 use Rattle.build.specs.Build.{binary}
 use Rattle.build.specs.Rest.{restPlan}
 use Rattle.meaning.specs.Value.{size, ofType, andThen, binaryMeans}
-use Rattle.meaning.proofs.Worlds.{World, value}
-use Rattle.meaning.proofs.Values.{typed-is, typed-of}
+use Rattle.meaning.proofs.Worlds.{World, operand, value}
+use Rattle.meaning.proofs.Values.{typed-of}
 use Rattle.meaning.proofs.Invariant.{storedTyped, Inv, inv-width, inv-valid, ext-here, ext-type, ext-value, Storable, Kept}
 use Rattle.meaning.proofs.Compared.{mask-value}
 use Rattle.meaning.proofs.Answers.{by-test, by-given, each-provided, each-given, each-or, of-any}
@@ -43,7 +43,7 @@ use Rattle.meaning.proofs.Constants.{reduced-same, stored-low, stored-h
 use Rattle.meaning.proofs.Field.{literal-value, operands, masked-sound, looked, first-looked}
 use Rattle.meaning.proofs.Offsets.{swapped-claim, sum-claim, offset-claim, equality-value}
 use Rattle.meaning.proofs.Plans.{Covers, Claim, Masking, FirstClaim, bits-number}
-use Rattle.meaning.proofs.Ranges.{binary-within}
+use Rattle.meaning.proofs.Ranges.{stored-within, held-at}
 use Rattle.meaning.proofs.Right.{compared-claim, twice-claim, right-claim, mask-claim}
 use Rattle.meaning.proofs.Shifts.{shift-claim}
 use Rattle.meaning.proofs.Tree.{Callable}
@@ -73,16 +73,8 @@ module _ {ρ : World} {g : List ℕ} (i : Inv ρ g) (t : ScalarType) (o : Binary
         refined = λ sure. tt;
         ends = ends;
         within = λ sure v q.
-            let d = operands ρ g t o l r v q in
-            let p = evaluated-is (evaluateBinary o t (d .x) (d .y)) v (d .means) in
-            binary-within o t (typeAt g l) (typeAt g r) (rangeAt g l) (rangeAt g r) a (d .x) (d .y) v (k .3) (k .0)
-            (value-small i l (k .1) (d .x) (d .left)) (value-small i r (k .2) (d .y) (d .right)) (i .ranged l (k .1) sure (d .x) (d .left))
-            (i .ranged r (k .2) sure (d .y) (d .right)) (i .ends l (k .1)) (p .0) (p .1) e;
+            stored-within (ρ .env) t (k .0) (rangedAt g) (operand ρ g) a v (node.binary o l r) (k .3, held-at i l (k .1) sure, held-at i r (k .2) sure) q e;
       }
-    where
-      evaluated-is : (a : Option ℕ) (v : ℕ) → andThen a (ofType t) ≡ some v → (a ≡ some v) × (v < size t)
-      evaluated-is none v e = absurd (none-some e)
-      evaluated-is (some x) v e = let p = typed-is t x v e in (ap some (sym (p .0)), p .1)
 
   store-claim : (a : Option (Option Interval)) → binaryRange t o (rangeAt g l) (rangeAt g r) ≡ a → (d : Option Plan) → ((p : Plan) → d ≡ some p → Asked p)
       → Asked (storePlan t o l r d a)
@@ -100,10 +92,10 @@ module _ {ρ : World} {g : List ℕ} (i : Inv ρ g) (t : ScalarType) (o : Binary
   decided-claim =
       each-or Asked (offsetPlan g t o l (literal g r)) (offset-claim i t o l r k)
       (each-or Asked (comparedPlan o (rangeAt g l) (rangeAt g r)) (compared-claim i t o l r k)
-      (each-or Asked (provided (eqb l r) (twice t o l))
+      (each-or Asked (provided (eqb l r) (withItself t o l))
       (each-provided Asked (eqb l r) (λ e. twice-claim i t o l r k (eqb-true l r e))) literal-claim))
 
-  pub binary-plan-claim : Asked (binaryPlan g t o l r)
+  binary-plan-claim : Asked (binaryPlan g t o l r)
   unfolding binaryPlan
   binary-plan-claim =
       by-given Asked (decidedPlan g t o l r) decided-claim
@@ -117,7 +109,7 @@ module _ {ρ : World} {g : List ℕ} (i : Inv ρ g) (t : ScalarType) (o : Binary
   constants-claim p e = by (literal g l) refl (literal g r) refl e
     where
       -- the constant of an answer, or None
-      answer : (a b : ℕ) → literal g l ≡ some a → literal g r ≡ some b → (v : Option ℕ) → evaluateBinary o t a b ≡ v → Asked (constantOr t v)
+      answer : (a b : ℕ) → literal g l ≡ some a → literal g r ≡ some b → (v : Option ℕ) → binaryValue o t a b ≡ v → Asked (constantOr t v)
       answer a b p q none d = tt
       answer a b p q (some v) d =
           let va = literal-value ρ g i l a (k .1) p in
@@ -135,7 +127,7 @@ module _ {ρ : World} {g : List ℕ} (i : Inv ρ g) (t : ScalarType) (o : Binary
       by : (a : Option ℕ) → literal g l ≡ a → (b : Option ℕ) → literal g r ≡ b → evaluated t o a b ≡ some p → Asked p
       by none pa b pb e = absurd (none-some e)
       by (some a) pa none pb e = absurd (none-some e)
-      by (some a) pa (some b) pb e = subst Asked (some-is e) (answer a b pa pb (evaluateBinary o t a b) refl)
+      by (some a) pa (some b) pb e = subst Asked (some-is e) (answer a b pa pb (binaryValue o t a b) refl)
 
 -- ---- the masked comparison, whether or not its operands have values
 
@@ -153,22 +145,22 @@ module _ (g : List ℕ) (o : Binary) where
       let s = looked g o base updated m e in
       subst (MaskFacts g o) (s .is) (record { width = s .width; type = refl; here = l; typed = s .typed; result = refl; op = refl })
 
-  mask-facts : (l r : ℕ) → l < countOf g → r < countOf g → (m : Mask) → maskedComparison g o l r ≡ some m → MaskFacts g o m
+  mask-facts : (l r : ℕ) → l < countOf g → r < countOf g → (m : Mask) → foldMaskedComparison g o l r ≡ some m → MaskFacts g o m
   mask-facts l r ll lr m e = ⊎-elim (look-facts l r ll m) (look-facts r l lr m) (first-looked g o l r m e)
 
 -- ---- its nodes, of Equal and NotEqual
 
 compare-typed : (w : ℕ) (o : Binary) → isAny equalities o ≡ true → storedTyped o (ty.Bits w) (ty.Bits w) ty.Bool ≡ true
-compare-typed w = of-any (λ o. storedTyped o (ty.Bits w) (ty.Bits w) ty.Bool ≡ true) equalities (eq-eqb w w refl, (eq-eqb w w refl, tt))
+compare-typed w = of-any (λ o. storedTyped o (ty.Bits w) (ty.Bits w) ty.Bool ≡ true) equalities (eq-eqb w w refl) (eq-eqb w w refl)
 
 result-bool : (a b t : ScalarType) (o : Binary) → isAny equalities o ≡ true → storedTyped o a b t ≡ true → t ≡ ty.Bool
 result-bool a b t =
-    let bool : both (sameType t ty.Bool) (sameType a b) ≡ true → t ≡ ty.Bool = λ s. same-type t ty.Bool (tests (sameType t ty.Bool) _ s .0) in
-    of-any (λ o. storedTyped o a b t ≡ true → t ≡ ty.Bool) equalities (bool, (bool, tt))
+    let bool : sameType t ty.Bool && sameType a b ≡ true → t ≡ ty.Bool = λ s. same-type t ty.Bool (tests (sameType t ty.Bool) _ s .0) in
+    of-any (λ o. storedTyped o a b t ≡ true → t ≡ ty.Bool) equalities bool bool
 
 module _ {ρ : World} {g : List ℕ} (i : Inv ρ g) (o : Binary) (l r : ℕ) (k : Callable g (binary ty.Bool o l r)) (q : isAny equalities o ≡ true) where
   -- its value, where both operands have one
-  mask-covers : (w : ℕ) (b : ℕ) (c d : ℕ) → maskedComparison g o l r ≡ some (record { type = ty.Bits w; base = b; mask = c; result = ty.Bool; op = o; literal = d })
+  mask-covers : (w : ℕ) (b : ℕ) (c d : ℕ) → foldMaskedComparison g o l r ≡ some (record { type = ty.Bits w; base = b; mask = c; result = ty.Bool; op = o; literal = d })
       → Covers (binaryMeans ty.Bool o (value ρ g l) (value ρ g r))
       (binaryMeans ty.Bool o (binaryMeans (ty.Bits w) bi.And (value ρ g b) (some (reduced (ty.Bits w) c))) (some (reduced (ty.Bits w) d)))
   mask-covers w b c d e x h =
@@ -184,7 +176,7 @@ module _ {ρ : World} {g : List ℕ} (i : Inv ρ g) (o : Binary) (l r : ℕ) (k 
       bits-is : {a b : ℕ} → ty.Bits a ≡ ty.Bits b → a ≡ b
       bits-is e = cc
 
-  masking : (m : Mask) → maskedComparison g o l r ≡ some m → Masking ρ g ty.Bool (binaryMeans ty.Bool o (value ρ g l) (value ρ g r)) m
+  masking : (m : Mask) → foldMaskedComparison g o l r ≡ some m → Masking ρ g ty.Bool (binaryMeans ty.Bool o (value ρ g l) (value ρ g r)) m
   masking m e =
       let f = mask-facts g o l r (k .1) (k .2) m e in
       let s : m ≡ record { type = ty.Bits (f .width); base = m .base; mask = m .mask; result = ty.Bool; op = o; literal = m .literal }
@@ -218,10 +210,10 @@ module _ {ρ : World} {g : List ℕ} (i : Inv ρ g) (t : ScalarType) (o : Binary
 
   equality-claim : Begun (equalityFirst g t o l r)
   equality-claim =
-      by-given Begun (provided (isAny equalities o) (maskedComparison g o l r))
-      (λ m e. let p = provided-is (isAny equalities o) (maskedComparison g o l r) e in masked (p .0) m (p .1)) (λ n. binary-plan-claim i t o l r k)
+      by-given Begun (provided (isAny equalities o) (foldMaskedComparison g o l r))
+      (λ m e. let p = provided-is (isAny equalities o) (foldMaskedComparison g o l r) e in masked (p .0) m (p .1)) (λ n. binary-plan-claim i t o l r k)
     where
-      masked : isAny equalities o ≡ true → (m : Mask) → maskedComparison g o l r ≡ some m → Begun (tries (plan.masked m) (binaryRest t o l r))
+      masked : isAny equalities o ≡ true → (m : Mask) → foldMaskedComparison g o l r ≡ some m → Begun (tries (plan.masked m) (binaryRest t o l r))
       masked q m e =
           let b = result-bool (typeAt g l) (typeAt g r) t o q (k .3) in (
             subst (λ (t : ScalarType). Callable g (binary t o l r) → Masking ρ g t (binaryMeans t o (value ρ g l) (value ρ g r)) m) (sym b)
@@ -231,7 +223,7 @@ module _ {ρ : World} {g : List ℕ} (i : Inv ρ g) (t : ScalarType) (o : Binary
 
   open-claim : Begun (openFirst g t o l r)
   open-claim =
-      by-given Begun (orPlan (evaluated t o (literal g l) (literal g r)) (shiftPlan g t o l (literal g r)))
+      by-given Begun (orElse (evaluated t o (literal g l) (literal g r)) (shiftPlan g t o l (literal g r)))
       (each-or (Claim ρ g t (binaryMeans t o (value ρ g l) (value ρ g r))) (evaluated t o (literal g l) (literal g r))
       (constants-claim i t o l r k) (shift-claim i l r (k .1) (k .2) t (k .0) o (k .3) (literal g r) refl)) (λ n. equality-claim)
 

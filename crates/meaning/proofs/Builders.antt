@@ -4,18 +4,18 @@ use mathlib.Core.Bool.{Bool, true, false, cond, false≢true}
 use mathlib.Core.List.{List}
 use mathlib.Core.Option.{Option, none, some}
 use Prim.Native.Nat.{ℕ}
+use Rattle.word.specs.Option.{given}
 use borrow.Author.Tests.{eqb-true}
 use Rattle.range.specs.declared.ScalarType.{ScalarType}
 use Rattle.range.specs.declared.ScalarType.the-variants as ty
-use Rattle.evaluate.specs.Evaluate.{evaluateUnary}
+use Rattle.evaluate.specs.Evaluate.{unaryValue}
 use Rattle.evaluate.specs.Operator.{unaryWidth}
 use Rattle.evaluate.specs.declared.Unary.{Unary}
 use Rattle.evaluate.specs.declared.Unary.the-variants as un
 use Rattle.graph.specs.Insert.{literal, resolve}
-use Rattle.fold.specs.Shape.{given}
 use Rattle.plan.specs.Plan as plan
 use Rattle.plan.specs.Plan.{does, tries, unaryRest, constantOr}
-use Rattle.plan.specs.Single.{identityPlan, isReduction, unaryPlan, unaryOpen, unaryFirst, modularPlan}
+use Rattle.plan.specs.OneOperand.{identityPlan, isReduction, unaryPlan, unaryOpen, unaryFirst, modularPlan}
 use Rattle.plan_slice.specs.Slice.{sliceFirst, concatFirst}
 use Rattle.plan_binary.specs.Binary.{binaryFirst}
 use Rattle.build.specs.Build.{Call, identity, unary, modular, binary, slice, concat, step, build}
@@ -76,7 +76,7 @@ module _ {ρ : World} {g : List ℕ} (i : Inv ρ g) (t : ScalarType) (o : Unary)
       open-claim false e = unary-plan-claim i n (k .2) t o (k .0) (k .1) (k .3)
 
       by : (c : Option ℕ) → literal g n ≡ c
-          → FirstClaim ρ g t (unaryMeans t o (value ρ g n)) (given c (λ c. does (constantOr t (evaluateUnary o c))) (unaryOpen g t o n))
+          → FirstClaim ρ g t (unaryMeans t o (value ρ g n)) (given c (λ c. does (constantOr t (unaryValue o c))) (unaryOpen g t o n))
       by none e = open-claim (isReduction t o) refl
       by (some c) e = unary-constant-claim i n (k .2) t o (k .0) (k .1) (k .3) c e
 

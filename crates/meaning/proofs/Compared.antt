@@ -1,6 +1,6 @@
 -- What ranges say of comparisons holds of the values, and what an operator gives of one value twice, or with a constant. Assumes nothing.
 use mathlib.Core.Path.{_≡_, refl, sym, ap, _∙_, subst}
-use mathlib.Core.Bool.{Bool, true, false, not, cond}
+use mathlib.Core.Bool.{Bool, true, false, not, cond, _&&_}
 use mathlib.Core.Logic.{_⊎_, inl, inr, ⊎-elim}
 use mathlib.Core.Option.{Option, none, some}
 use Prim.Native.Nat.{ℕ, zero, suc, zero-le, _+_, _-_, _*_, _%_, _^_, _≤_, _<_}
@@ -12,17 +12,19 @@ use lib.Dec.{eqb, ltb, leb}
 use lib.IntN.{ℤ, pos, negsuc, _+ℤ_, _-ℤ_, _*ℤ_, +ℤ-invr, +ℤ-idr, *ℤ-zero}
 use lib.Pow.{pow-pos, ones-lt}
 use lib.Signed.{mag, ltZ, leZ, shrZ, _≤ℤ_, ≤ℤ-refl}
-use Rattle.word.specs.Value.{signed, residue, eqZ, provided, fits, fitted, isPowerOfTwo}
+use Rattle.word.specs.Value.{signed, residue, eqZ, fits, fitted, isPowerOfTwo}
+use Rattle.word.specs.Option.{provided, mapped, fromBool}
 use Rattle.word.proofs.Integer.{signed-low, signed-high, signed-mag, residue-signed, lt-or-ge}
 use Rattle.word.proofs.Counts.{power-of-two}
 use Rattle.word.proofs.Orders.{le-not-less}
-use Rattle.range.specs.Interval.{Interval, _∈_, both, sameInterval, nonnegative}
+use Rattle.range.specs.Interval.{Interval, _∈_, sameInterval, nonnegative}
 use Rattle.range.specs.declared.ScalarType.{ScalarType}
 use Rattle.range.specs.declared.ScalarType.the-variants as ty
 use Rattle.range.proofs.Order.{up, down, orders, less-true}
 use Rattle.range.proofs.Sound.{tests, either, at-most}
 use Rattle.range.proofs.Answers.{some-is}
-use Rattle.evaluate.specs.Evaluate.{fromBool, mapped, reduced, shiftedLeft, shiftedRight, shiftWidth, arithmeticShift, evaluateBinary, byType}
+use Rattle.meaning.proofs.Answers.{of-any, answering}
+use Rattle.evaluate.specs.Evaluate.{reduced, shiftedLeft, shiftedRight, shiftWidth, arithmeticShift, binaryValue, byType}
 use Rattle.evaluate.specs.declared.Binary.{Binary}
 use Rattle.evaluate.specs.declared.Binary.the-variants as bi
 use Rattle.evaluate.proofs.Fields.{residue-narrow}
@@ -30,6 +32,7 @@ use Rattle.evaluate.proofs.Shifts.{shift-left, shift-right, arithmetic}
 use Rattle.bits.proofs.Logic.{and-assoc, or-assoc, xor-assoc, and-or}
 use Rattle.bits.proofs.Sums.{sub-same, sub-exact}
 use Rattle.fold.specs.Range.{apart, equalRanges, lessRanges, lessEqualRanges, unsignedToo, comparison}
+use Rattle.fold.specs.Operator.{comparisons}
 use Rattle.fold.specs.Shape.{mask}
 use Rattle.meaning.specs.Value.{size, integerOf, binaryMeans}
 use Rattle.meaning.proofs.Invariant.{Ends}
@@ -86,9 +89,9 @@ module _ (x y : ℤ) (a b : Interval) (f : x ∈ a) (g : y ∈ b) where
       go false false d e h = cc
 
   equal-in : (truth : Bool) → equalRanges a b ≡ some truth → ((truth ≡ true) × (x ≡ y)) ⊎ ((truth ≡ false) × (x ≡ y → ⊥))
-  equal-in truth = go (both (eqZ (a .low) (a .high)) (sameInterval a b)) (apart a b) refl refl
+  equal-in truth = go (eqZ (a .low) (a .high) && sameInterval a b) (apart a b) refl refl
     where
-      ends : both (eqZ (a .low) (a .high)) (sameInterval a b) ≡ true → x ≡ y
+      ends : eqZ (a .low) (a .high) && sameInterval a b ≡ true → x ≡ y
       ends d =
           let t = tests (eqZ (a .low) (a .high)) (sameInterval a b) d in
           let s = tests (eqZ (a .low) (b .low)) (eqZ (a .high) (b .high)) (t .1) in
@@ -103,7 +106,7 @@ module _ (x y : ℤ) (a b : Interval) (f : x ∈ a) (g : y ∈ b) where
           (λ (h : ltZ (b .high) (a .low) ≡ true). omega (orders, less-true (b .high) (a .low) h, ap up q, ap down q))
           (either (ltZ (a .high) (b .low)) (ltZ (b .high) (a .low)) d)
 
-      go : (p q : Bool) → both (eqZ (a .low) (a .high)) (sameInterval a b) ≡ p → apart a b ≡ q
+      go : (p q : Bool) → eqZ (a .low) (a .high) && sameInterval a b ≡ p → apart a b ≡ q
           → cond p (some true) (cond q (some false) none) ≡ some truth → ((truth ≡ true) × (x ≡ y)) ⊎ ((truth ≡ false) × (x ≡ y → ⊥))
       go true q d e h = inl (cc, ends d)
       go false true d e h = inr (cc, away e)
@@ -166,31 +169,24 @@ module _ (x y : ℕ) (a b : Interval) (l : x < 2 ^ 128) (m : y < 2 ^ 128) (f : (
       sym (λ i. leZ (u .0 i) (u .1 i)) ∙ at-most-in (signed 128 x) (signed 128 y) a b f g truth e
   at-most-unsigned false truth d e = cc
 
-  compared : (o : Binary) (truth : Bool) → comparison o a b ≡ some truth → evaluateBinary o ty.Bool x y ≡ some (fromBool truth)
-  unfolding comparison evaluateBinary
-  compared bi.Add truth e = cc
-  compared bi.Sub truth e = cc
-  compared bi.Mul truth e = cc
-  compared bi.And truth e = cc
-  compared bi.Or truth e = cc
-  compared bi.Xor truth e = cc
-  compared bi.ShiftLeft truth e = cc
-  compared bi.ShiftRight truth e = cc
-  compared bi.ArithmeticShiftRight truth e = cc
-  compared bi.Equal truth e = ap (λ (t : Bool). some (fromBool t)) (equal-value truth e)
-  compared bi.NotEqual truth e = ap (λ (t : Bool). some (fromBool t)) (equal-mapped (equalRanges a b) truth refl e)
-  compared bi.LessSigned truth e = ap (λ (t : Bool). some (fromBool t)) (less-in (signed 128 x) (signed 128 y) a b f g truth e)
-  compared bi.LessUnsigned truth e = ap (λ (t : Bool). some (fromBool t)) (less-unsigned (unsignedToo a b) truth refl e)
-  compared bi.LessEqualSigned truth e = ap (λ (t : Bool). some (fromBool t)) (at-most-in (signed 128 x) (signed 128 y) a b f g truth e)
-  compared bi.LessEqualUnsigned truth e = ap (λ (t : Bool). some (fromBool t)) (at-most-unsigned (unsignedToo a b) truth refl e)
-  compared bi.DivideSigned truth e = cc
-  compared bi.RemainderSigned truth e = cc
-  compared bi.DivideUnsigned truth e = cc
-  compared bi.RemainderUnsigned truth e = cc
+  compared : (o : Binary) (truth : Bool) → comparison o a b ≡ some truth → binaryValue o ty.Bool x y ≡ some (fromBool truth)
+  unfolding comparison binaryValue
+  compared o truth e =
+      of-any (λ o. comparison o a b ≡ some truth → binaryValue o ty.Bool x y ≡ some (fromBool truth)) comparisons
+      (λ e. so (less-in (signed 128 x) (signed 128 y) a b f g truth e))
+      (λ e. so (less-unsigned (unsignedToo a b) truth refl e))
+      (λ e. so (at-most-in (signed 128 x) (signed 128 y) a b f g truth e))
+      (λ e. so (at-most-unsigned (unsignedToo a b) truth refl e))
+      (λ e. so (equal-value truth e))
+      (λ e. so (equal-mapped (equalRanges a b) truth refl e))
+      o (answering comparisons (λ o. comparison o a b) refl o e) e
+    where
+      so : {s : Bool} → s ≡ truth → some (fromBool s) ≡ some (fromBool truth)
+      so q = ap (λ (t : Bool). some (fromBool t)) q
 
 pub comparison-sound : (o : Binary) (s : ScalarType) (x y : ℕ) (a b : Interval) (truth : Bool) → x < 2 ^ 128 → y < 2 ^ 128
     → (integerOf s x) ∈ a → (integerOf s y) ∈ b → Ends a → Ends b → comparison o a b ≡ some truth
-    → evaluateBinary o ty.Bool x y ≡ some (fromBool truth)
+    → binaryValue o ty.Bool x y ≡ some (fromBool truth)
 comparison-sound o s x y a b truth l m f g p q e =
     compared x y a b l m (subst (λ (z : ℤ). z ∈ a) (read s x a f p) f) (subst (λ (z : ℤ). z ∈ b) (read s y b g q) g) o truth e
 
@@ -221,45 +217,45 @@ zero-signed : signed 128 0 ≡ pos 0
 zero-signed = signed-low 128 0 (pow-pos 127)
 
 module _ (t : ScalarType) (x : ℕ) where
-  pub sub-twice : x < 2 ^ 128 → evaluateBinary bi.Sub t x x ≡ some 0
-  unfolding evaluateBinary
+  pub sub-twice : x < 2 ^ 128 → binaryValue bi.Sub t x x ≡ some 0
+  unfolding binaryValue
   sub-twice l = kept-sum t 0 (size-pos t) (pow-pos 128) _ _ (sub-same x (2 ^ 128) l) (+ℤ-invr (signed 128 x) ∙ sym zero-signed)
 
-  pub xor-twice : evaluateBinary bi.Xor t x x ≡ some 0
-  unfolding evaluateBinary
+  pub xor-twice : binaryValue bi.Xor t x x ≡ some 0
+  unfolding binaryValue
   xor-twice = kept t 0 (size-pos t) (bitXor x x) (xor-self x)
 
-  pub and-twice : x < size t → evaluateBinary bi.And t x x ≡ some x
-  unfolding evaluateBinary
+  pub and-twice : x < size t → binaryValue bi.And t x x ≡ some x
+  unfolding binaryValue
   and-twice l = kept t x l (bitAnd x x) (and-self x)
 
-  pub or-twice : x < size t → evaluateBinary bi.Or t x x ≡ some x
-  unfolding evaluateBinary
+  pub or-twice : x < size t → binaryValue bi.Or t x x ≡ some x
+  unfolding binaryValue
   or-twice l = kept t x l (bitOr x x) (or-self x)
 
 module _ (x : ℕ) where
-  pub equal-twice : evaluateBinary bi.Equal ty.Bool x x ≡ some 1
-  unfolding evaluateBinary
+  pub equal-twice : binaryValue bi.Equal ty.Bool x x ≡ some 1
+  unfolding binaryValue
   equal-twice = rw (eq-eqb x x refl)
 
-  pub not-equal-twice : evaluateBinary bi.NotEqual ty.Bool x x ≡ some 0
-  unfolding evaluateBinary
+  pub not-equal-twice : binaryValue bi.NotEqual ty.Bool x x ≡ some 0
+  unfolding binaryValue
   not-equal-twice = rw (eq-eqb x x refl)
 
-  pub less-signed-twice : evaluateBinary bi.LessSigned ty.Bool x x ≡ some 0
-  unfolding evaluateBinary
+  pub less-signed-twice : binaryValue bi.LessSigned ty.Bool x x ≡ some 0
+  unfolding binaryValue
   less-signed-twice = rw (not-less (signed 128 x) (signed 128 x) (≤ℤ-refl (signed 128 x)))
 
-  pub less-unsigned-twice : evaluateBinary bi.LessUnsigned ty.Bool x x ≡ some 0
-  unfolding evaluateBinary
+  pub less-unsigned-twice : binaryValue bi.LessUnsigned ty.Bool x x ≡ some 0
+  unfolding binaryValue
   less-unsigned-twice = rw (le-ltb x x (le-refl x))
 
-  pub at-most-signed-twice : evaluateBinary bi.LessEqualSigned ty.Bool x x ≡ some 1
-  unfolding evaluateBinary
+  pub at-most-signed-twice : binaryValue bi.LessEqualSigned ty.Bool x x ≡ some 1
+  unfolding binaryValue
   at-most-signed-twice = rw (le-not-less (signed 128 x) (signed 128 x) (not-less (signed 128 x) (signed 128 x) (≤ℤ-refl (signed 128 x))))
 
-  pub at-most-unsigned-twice : evaluateBinary bi.LessEqualUnsigned ty.Bool x x ≡ some 1
-  unfolding evaluateBinary
+  pub at-most-unsigned-twice : binaryValue bi.LessEqualUnsigned ty.Bool x x ≡ some 1
+  unfolding binaryValue
   at-most-unsigned-twice = rw (le-leb x x (le-refl x))
 
 -- ---- 0 on the right
@@ -278,42 +274,42 @@ shr-one (pos n) = ap pos (div-one n)
 shr-one (negsuc n) = ap negsuc (div-one n)
 
 module _ (t : ScalarType) (x : ℕ) where
-  pub and-zero : evaluateBinary bi.And t x 0 ≡ some 0
-  unfolding evaluateBinary
+  pub and-zero : binaryValue bi.And t x 0 ≡ some 0
+  unfolding binaryValue
   and-zero = kept t 0 (size-pos t) (bitAnd x 0) (and-zero-r x)
 
-  pub mul-zero : evaluateBinary bi.Mul t x 0 ≡ some 0
-  unfolding evaluateBinary
+  pub mul-zero : binaryValue bi.Mul t x 0 ≡ some 0
+  unfolding binaryValue
   mul-zero =
       kept-sum t 0 (size-pos t) (pow-pos 128) _ _ (ap (λ (n : ℕ). n % 2 ^ 128) (times-zero x) ∙ zero-mod (2 ^ 128))
       (ap (λ (z : ℤ). signed 128 x *ℤ z) zero-signed ∙ *ℤ-zero (signed 128 x) ∙ sym zero-signed)
 
   module _ (l : x < size t) where
-    pub or-zero : evaluateBinary bi.Or t x 0 ≡ some x
-    unfolding evaluateBinary
+    pub or-zero : binaryValue bi.Or t x 0 ≡ some x
+    unfolding binaryValue
     or-zero = kept t x l (bitOr x 0) (or-zero-r x)
 
-    pub xor-zero : evaluateBinary bi.Xor t x 0 ≡ some x
-    unfolding evaluateBinary
+    pub xor-zero : binaryValue bi.Xor t x 0 ≡ some x
+    unfolding binaryValue
     xor-zero = kept t x l (bitXor x 0) (xor-zero-r x)
 
     module _ (m : x < 2 ^ 128) where
-      pub shift-left-zero : evaluateBinary bi.ShiftLeft t x 0 ≡ some x
-      unfolding evaluateBinary
+      pub shift-left-zero : binaryValue bi.ShiftLeft t x 0 ≡ some x
+      unfolding binaryValue
       shift-left-zero = kept t x l (shiftedLeft x 0) (shift-left x 0 ∙ ap (λ (n : ℕ). n % 2 ^ 128) (mul-one x) ∙ mod-eq-of-lt m)
 
-      pub shift-right-zero : evaluateBinary bi.ShiftRight t x 0 ≡ some x
-      unfolding evaluateBinary
+      pub shift-right-zero : binaryValue bi.ShiftRight t x 0 ≡ some x
+      unfolding binaryValue
       shift-right-zero = kept t x l (shiftedRight x 0) (shift-right x 0 m ∙ div-one x)
 
-      pub add-zero : evaluateBinary bi.Add t x 0 ≡ some x
-      unfolding evaluateBinary
+      pub add-zero : binaryValue bi.Add t x 0 ≡ some x
+      unfolding binaryValue
       add-zero =
           kept-sum t x l m _ _ (ap (λ (n : ℕ). n % 2 ^ 128) (plus-zero x) ∙ mod-eq-of-lt m)
           (ap (λ (z : ℤ). signed 128 x +ℤ z) zero-signed ∙ +ℤ-idr (signed 128 x))
 
-      pub sub-zero : evaluateBinary bi.Sub t x 0 ≡ some x
-      unfolding evaluateBinary
+      pub sub-zero : binaryValue bi.Sub t x 0 ≡ some x
+      unfolding binaryValue
       sub-zero =
           kept-sum t x l m _ _ (sub-exact x 0 (2 ^ 128) m zero-le ∙ minus-zero x) (ap (λ (z : ℤ). signed 128 x -ℤ z) zero-signed ∙ +ℤ-idr (signed 128 x))
 
@@ -326,8 +322,8 @@ arithmetic-none x (suc w) h l =
 arithmetic-all : (x : ℕ) → x < 2 ^ 128 → arithmeticShift 128 x 0 ≡ x
 arithmetic-all x m = arithmetic 128 x (omega arith) m (omega arith) 0 ∙ ap (residue 128) (shr-one (signed 128 x)) ∙ residue-signed 128 x m
 
-pub arithmetic-zero : (t : ScalarType) (x : ℕ) → shiftWidth t ≤ 128 → x < size t → evaluateBinary bi.ArithmeticShiftRight t x 0 ≡ some x
-unfolding evaluateBinary
+pub arithmetic-zero : (t : ScalarType) (x : ℕ) → shiftWidth t ≤ 128 → x < size t → binaryValue bi.ArithmeticShiftRight t x 0 ≡ some x
+unfolding binaryValue
 arithmetic-zero ty.Bool x h l = ap some (arithmetic-all x (pattern ty.Bool x (omega arith) l))
 arithmetic-zero (ty.Bits w) x h l = ap some (arithmetic-none x w h l)
 arithmetic-zero ty.Integer x h l = ap some (arithmetic-all x l)
@@ -347,26 +343,26 @@ module _ (w x : ℕ) (l : x < 2 ^ w) where
       go : (p q n : ℕ) → p + q ≡ x + n → q ≡ x → p ≡ n
       go p q n e f = omega arith
 
-  pub and-ones : evaluateBinary bi.And (ty.Bits w) x (2 ^ w - 1) ≡ some x
-  unfolding evaluateBinary
+  pub and-ones : binaryValue bi.And (ty.Bits w) x (2 ^ w - 1) ≡ some x
+  unfolding binaryValue
   and-ones = ap (λ (n : ℕ). some (n % 2 ^ w)) ones-and ∙ ap some (mod-eq-of-lt l)
 
-  pub or-ones : evaluateBinary bi.Or (ty.Bits w) x (2 ^ w - 1) ≡ some (2 ^ w - 1)
-  unfolding evaluateBinary
+  pub or-ones : binaryValue bi.Or (ty.Bits w) x (2 ^ w - 1) ≡ some (2 ^ w - 1)
+  unfolding binaryValue
   or-ones = ap (λ (n : ℕ). some (n % 2 ^ w)) ones-or ∙ ap some (mod-eq-of-lt (ones-lt w))
 
 -- the same of Bool
-pub and-true : (x : ℕ) → x < 2 → evaluateBinary bi.And ty.Bool x 1 ≡ some x
-unfolding evaluateBinary
+pub and-true : (x : ℕ) → x < 2 → binaryValue bi.And ty.Bool x 1 ≡ some x
+unfolding binaryValue
 and-true x l = ap some (ones-and 1 x l)
 
-pub or-true : (x : ℕ) → x < 2 → evaluateBinary bi.Or ty.Bool x 1 ≡ some 1
-unfolding evaluateBinary
+pub or-true : (x : ℕ) → x < 2 → binaryValue bi.Or ty.Bool x 1 ≡ some 1
+unfolding binaryValue
 or-true x l = ap some (ones-or 1 x l)
 
 -- And with a constant of Bits(w), as a node's value
 pub mask-value : (w x m : ℕ) → m < 2 ^ w → binaryMeans (ty.Bits w) bi.And (some x) (some (reduced (ty.Bits w) m)) ≡ some (bitAnd x m)
-unfolding evaluateBinary
+unfolding binaryValue
 mask-value w x m l =
     (λ k. binaryMeans (ty.Bits w) bi.And (some x) (some (mod-eq-of-lt l k))) ∙ valued-same (ty.Bits w) (bitAnd x m) (lt-of-le-of-lt (and-le-r x m) l)
 
@@ -394,22 +390,22 @@ module _ (f : ℕ → ℕ → ℕ) (low : (a b k : ℕ) → f a b % 2 ^ k ≡ f 
 
 -- v is the operation of x and c, k that of c and d
 module _ (t : ScalarType) (x c d v k : ℕ) where
-  pub and-merged : evaluateBinary bi.And t x c ≡ some v → evaluateBinary bi.And t c d ≡ some k → evaluateBinary bi.And t v d ≡ evaluateBinary bi.And t x k
-  unfolding evaluateBinary
+  pub and-merged : binaryValue bi.And t x c ≡ some v → binaryValue bi.And t c d ≡ some k → binaryValue bi.And t v d ≡ binaryValue bi.And t x k
+  unfolding binaryValue
   and-merged = merged bitAnd and-mod and-assoc t x c d v k
 
-  pub or-merged : evaluateBinary bi.Or t x c ≡ some v → evaluateBinary bi.Or t c d ≡ some k → evaluateBinary bi.Or t v d ≡ evaluateBinary bi.Or t x k
-  unfolding evaluateBinary
+  pub or-merged : binaryValue bi.Or t x c ≡ some v → binaryValue bi.Or t c d ≡ some k → binaryValue bi.Or t v d ≡ binaryValue bi.Or t x k
+  unfolding binaryValue
   or-merged = merged bitOr or-mod or-assoc t x c d v k
 
-  pub xor-merged : evaluateBinary bi.Xor t x c ≡ some v → evaluateBinary bi.Xor t c d ≡ some k → evaluateBinary bi.Xor t v d ≡ evaluateBinary bi.Xor t x k
-  unfolding evaluateBinary
+  pub xor-merged : binaryValue bi.Xor t x c ≡ some v → binaryValue bi.Xor t c d ≡ some k → binaryValue bi.Xor t v d ≡ binaryValue bi.Xor t x k
+  unfolding binaryValue
   xor-merged = merged bitXor xor-mod xor-assoc t x c d v k
 
 -- v is x or c, u is x and d
-module _ (t : ScalarType) (x c d v u : ℕ) (p : evaluateBinary bi.Or t x c ≡ some v) (q : evaluateBinary bi.And t x d ≡ some u) where
-  pub and-of-or : evaluateBinary bi.And t v d ≡ evaluateBinary bi.Or t u (bitAnd c d)
-  unfolding evaluateBinary
+module _ (t : ScalarType) (x c d v u : ℕ) (p : binaryValue bi.Or t x c ≡ some v) (q : binaryValue bi.And t x d ≡ some u) where
+  and-of-or : binaryValue bi.And t v d ≡ binaryValue bi.Or t u (bitAnd c d)
+  unfolding binaryValue
   and-of-or =
       let p′ : reduced t (bitOr x c) ≡ v = some-is p in
       let q′ : reduced t (bitAnd x d) ≡ u = some-is q in
@@ -418,17 +414,17 @@ module _ (t : ScalarType) (x c d v u : ℕ) (p : evaluateBinary bi.Or t x c ≡ 
       (left-reduced bitAnd and-mod t (bitOr x c) d ∙ ap (reduced t) (and-or x c d) ∙ sym (left-reduced bitOr or-mod t (bitAnd x d) (bitAnd c d))))
 
   -- k is c and d
-  pub and-of-or-merged : (k : ℕ) → evaluateBinary bi.And t c d ≡ some k → evaluateBinary bi.And t v d ≡ evaluateBinary bi.Or t u k
-  unfolding evaluateBinary
+  pub and-of-or-merged : (k : ℕ) → binaryValue bi.And t c d ≡ some k → binaryValue bi.And t v d ≡ binaryValue bi.Or t u k
+  unfolding binaryValue
   and-of-or-merged k r =
       let r′ : reduced t (bitAnd c d) ≡ k = some-is r in
       and-of-or ∙ rw (← r′) (ap some (sym (right-reduced bitOr or-mod t u (bitAnd c d))))
 
 -- ---- the remainder by a power of two
 
-pub remainder-and : (t : ScalarType) (x k : ℕ) → evaluateBinary bi.RemainderUnsigned t x (2 ^ k) ≡ evaluateBinary bi.And t x (2 ^ k - 1)
-unfolding evaluateBinary
+remainder-and : (t : ScalarType) (x k : ℕ) → binaryValue bi.RemainderUnsigned t x (2 ^ k) ≡ binaryValue bi.And t x (2 ^ k - 1)
+unfolding binaryValue
 remainder-and t x k = rw (lt-ltb 0 (2 ^ k) (pow-pos k)) (ap (λ (n : ℕ). some (reduced t n)) (sym (and-mask x k)))
 
-pub remainder-power : (t : ScalarType) (x b : ℕ) → isPowerOfTwo b ≡ true → evaluateBinary bi.RemainderUnsigned t x b ≡ evaluateBinary bi.And t x (b - 1)
+pub remainder-power : (t : ScalarType) (x b : ℕ) → isPowerOfTwo b ≡ true → binaryValue bi.RemainderUnsigned t x b ≡ binaryValue bi.And t x (b - 1)
 remainder-power t x b e = let p = power-of-two b e in rw (p .1) (remainder-and t x (p .0))

@@ -1,6 +1,6 @@
 -- Two values side by side: concat's plans claim what is asked of them. Assumes nothing.
 use mathlib.Core.Path.{_≡_, refl, sym, ap, _∙_, subst}
-use mathlib.Core.Bool.{Bool, true, false, cond}
+use mathlib.Core.Bool.{Bool, true, false, cond, _&&_, _||_}
 use mathlib.Core.List.{List}
 use mathlib.Core.Option.{Option, none, some}
 use Prim.Native.Nat.{ℕ, zero, suc, _+_, _-_, _*_, _/_, _%_, _^_, _≤_, _<_}
@@ -10,14 +10,14 @@ use borrow.Author.Tests.{eqb-true, eqb-false, eq-eqb, lt-ltb}
 use lib.Bits.{bitAnd, bitOr, or-shifted}
 use lib.Dec.{eqb, ltb, leb}
 use lib.Pow.{shl-exact}
-use Rattle.word.specs.Value.{only}
-use Rattle.range.specs.Interval.{both, one, typeInterval}
+use Rattle.word.specs.Option.{only, given}
+use Rattle.range.specs.Interval.{typeInterval}
 use Rattle.range.specs.declared.ScalarType.{ScalarType}
 use Rattle.range.specs.declared.ScalarType.the-variants as ty
 use Rattle.range.proofs.Sound.{tests}
 use Rattle.range.proofs.Answers.{none-some, some-is, provided-is}
 use Rattle.range.proofs.Valid.{type-valid}
-use Rattle.evaluate.specs.Evaluate.{evaluateBinary}
+use Rattle.evaluate.specs.Evaluate.{binaryValue}
 use Rattle.evaluate.specs.declared.Unary.{Unary}
 use Rattle.evaluate.specs.declared.Unary.the-variants as un
 use Rattle.evaluate.specs.declared.Binary.{Binary}
@@ -26,8 +26,8 @@ use Rattle.graph.specs.Layout.{countOf}
 use Rattle.graph.specs.Node as node
 use Rattle.graph.specs.Node.{Op, typeAt, operationAt}
 use Rattle.graph.specs.Insert.{start, literal}
-use Rattle.fold.specs.Shape.{given, sameType}
-use Rattle.bitfield.specs.Bitfield.{Bit, known, source, BitStep, here, from, flipped, hasBit, above, maskedBit, unaryBit, bitOf, bitStep, turned, reached, DEPTH, bitAt, Field, noBits, sameBase, withBit, concatBit, fieldFrom, lowFits, bitfield}
+use Rattle.fold.specs.Shape.{sameType, sameBinary}
+use Rattle.bitfield.specs.Bitfield.{Bit, known, source, BitStep, here, from, flipped, hasBit, above, maskedBit, unaryBit, bitOf, bitStep, negatedBit, reached, DEPTH, bitAt, Field, noBits, sameBase, withBit, concatBit, fieldFrom, lowFits, foldBitfieldConcat}
 use Rattle.plan.specs.Plan as plan
 use Rattle.plan.specs.Plan.{Plan, First, does, tries, concatRest}
 use Rattle.plan_slice.specs.Slice.{concatPlan, joined, Cut, cutOf, adjacent, fieldPlan, concatField, concatOpen, joinedPlan, concatFirst}
@@ -36,7 +36,7 @@ use Rattle.build.specs.Build.{concat}
 use Rattle.native.specs.Typing.{concatTyped}
 use Rattle.bits.proofs.Slices.{slice-high, slice-low, slice-join}
 use Rattle.meaning.specs.Value.{valued, andThen, binaryMeans, sliceMeans, concatMeans}
-use Rattle.meaning.proofs.Worlds.{World, value}
+use Rattle.meaning.proofs.Worlds.{World, operand, value}
 use Rattle.meaning.proofs.Values.{typed-is, then-is, means-small}
 use Rattle.meaning.proofs.Compared.{mask-value}
 use Rattle.meaning.proofs.Answers.{given-is, by-test, by-given}
@@ -72,10 +72,10 @@ concat-storable ρ g high low v w c =
       typed = (w, refl, c .4);
       refined = λ sure. tt;
       ends = type-ends (ty.Bits w);
-      within = λ sure x e. type-within (ty.Bits w) x (means-small (ρ .env) (ty.Bits w) (node.concat high low v) (value ρ g) x e);
+      within = λ sure x e. type-within (ty.Bits w) x (means-small (ρ .env) (ty.Bits w) (node.concat high low v) (operand ρ g) x e);
     }
 
-pub concat-plan-claim : (ρ : World) (g : List ℕ) (high low v w : ℕ) → Callable g (concat high low v w)
+concat-plan-claim : (ρ : World) (g : List ℕ) (high low v w : ℕ) → Callable g (concat high low v w)
     → Claim ρ g (ty.Bits w) (concatMeans (ty.Bits w) v (value ρ g high) (value ρ g low)) (concatPlan high low v w)
 unfolding concatPlan
 concat-plan-claim ρ g high low v w c = (refl, concat-storable ρ g high low v w c, λ sure x e. e)
@@ -109,25 +109,11 @@ BaseHere g (some m) = m < countOf g
 
 module _ (g : List ℕ) (n i : ℕ) (l : n < countOf g) where
   masked-here : (o : Binary) (set : Bool) (p : ℕ) → p < countOf g → StepHere g (maskedBit o n set p i)
-  masked-here bi.And set p q = by-test (StepHere g) set (λ e. q) (λ e. tt)
-  masked-here bi.Or set p q = by-test (StepHere g) set (λ e. tt) (λ e. q)
-  masked-here bi.Xor set p q = by-test (StepHere g) set (λ e. q) (λ e. q)
-  masked-here bi.Add set p q = l
-  masked-here bi.Sub set p q = l
-  masked-here bi.Mul set p q = l
-  masked-here bi.ShiftLeft set p q = l
-  masked-here bi.ShiftRight set p q = l
-  masked-here bi.ArithmeticShiftRight set p q = l
-  masked-here bi.Equal set p q = l
-  masked-here bi.NotEqual set p q = l
-  masked-here bi.LessSigned set p q = l
-  masked-here bi.LessUnsigned set p q = l
-  masked-here bi.LessEqualSigned set p q = l
-  masked-here bi.LessEqualUnsigned set p q = l
-  masked-here bi.DivideSigned set p q = l
-  masked-here bi.RemainderSigned set p q = l
-  masked-here bi.DivideUnsigned set p q = l
-  masked-here bi.RemainderUnsigned set p q = l
+  masked-here o set p q =
+      by-test (StepHere g) (sameBinary o bi.And) (λ e. by-test (StepHere g) set (λ e. q) (λ e. tt))
+      (λ e.
+      by-test (StepHere g) (sameBinary o bi.Or) (λ e. by-test (StepHere g) set (λ e. tt) (λ e. q))
+      (λ e. by-test (StepHere g) (sameBinary o bi.Xor) (λ e. by-test (StepHere g) set (λ e. q) (λ e. q)) (λ e. l)))
 
   unary-here : (o : Unary) (p : ℕ) → p < countOf g → StepHere g (unaryBit o n p i)
   unary-here un.BoolNot p q = l
@@ -152,9 +138,9 @@ module _ {ρ : World} {g : List ℕ} (inv : Inv ρ g) where
   step-here : (n i : ℕ) → n < countOf g → StepHere g (bitStep g n i)
   unfolding bitStep
   step-here n i l =
-      by-test (StepHere g) (one (leb 128 i) (above (typeAt g n) i)) (λ e. tt) (λ e. op-here g n i l (operationAt g n) (inv-below inv n l))
+      by-test (StepHere g) (leb 128 i || above (typeAt g n) i) (λ e. tt) (λ e. op-here g n i l (operationAt g n) (inv-below inv n l))
 
-  turned-here : (o : Option Bit) (b : Bit) → turned o ≡ some b → Here g b
+  turned-here : (o : Option Bit) (b : Bit) → negatedBit o ≡ some b → Here g b
   turned-here none b e = absurd (none-some e)
   turned-here (some (known k)) b e = subst (Here g) (some-is e) tt
   turned-here (some (source m j)) b e = absurd (none-some e)
@@ -173,7 +159,7 @@ module _ {ρ : World} {g : List ℕ} (inv : Inv ρ g) where
   with-here : (f r : Field) (i : ℕ) (b : Bit) → BaseHere g (f .base) → Here g b → withBit f i b ≡ some r → BaseHere g (r .base)
   with-here f r i (known k) h q e = subst (λ (d : Field). BaseHere g (d .base)) (some-is e) h
   with-here f r i (source m j) h q e =
-      subst (λ (d : Field). BaseHere g (d .base)) (some-is (provided-is (both (eqb j i) (sameBase (f .base) m)) _ e .1)) q
+      subst (λ (d : Field). BaseHere g (d .base)) (some-is (provided-is (eqb j i && sameBase (f .base) m) _ e .1)) q
 
   module _ (high low v : ℕ) (lh : high < countOf g) (ll : low < countOf g) where
     field-here : (k i : ℕ) (f r : Field) → BaseHere g (f .base) → fieldFrom g high low v i k f ≡ some r → BaseHere g (r .base)
@@ -187,15 +173,15 @@ module _ {ρ : World} {g : List ℕ} (inv : Inv ρ g) where
         at b =
             by-test (λ (o : Option Bit). o ≡ some b → Here g b) (ltb i v) (λ q. bit-here DEPTH low i ll b) (λ q. bit-here DEPTH high (i - v) lh b)
 
-    base-here : (w : ℕ) (f : Field) → bitfield g high low v w ≡ some f → BaseHere g (f .base)
-    unfolding bitfield
+    base-here : (w : ℕ) (f : Field) → foldBitfieldConcat g high low v w ≡ some f → BaseHere g (f .base)
+    unfolding foldBitfieldConcat
     base-here w f e = field-here w 0 noBits f tt (provided-is (lowFits g low v) (fieldFrom g high low v 0 w noBits) e .1)
 
 -- ---- And with a mask, then Or with a literal
 
 masked-means : (w u keep lit z : ℕ) → keep < 2 ^ w → lit < 2 ^ w → z ≡ bitOr (bitAnd u keep) lit % 2 ^ w
     → binaryMeans (ty.Bits w) bi.Or (binaryMeans (ty.Bits w) bi.And (some u) (some (keep % 2 ^ w))) (some (lit % 2 ^ w)) ≡ some z
-unfolding evaluateBinary
+unfolding binaryValue
 masked-means w u keep lit z lk ll e =
     (λ k. binaryMeans (ty.Bits w) bi.Or (mask-value w u keep lk k) (some (mod-eq-of-lt ll k))) ∙ low-valued w (bitOr (bitAnd u keep) lit) ∙ ap some (sym e)
 
@@ -254,12 +240,12 @@ module _ {ρ : World} {g : List ℕ} (i : Inv ρ g) (high low v w : ℕ) (c : Ca
   whole : (n : ℕ) → n % 2 ^ w ≡ n / 2 ^ 0 % 2 ^ w
   whole n = ap (λ (m : ℕ). m % 2 ^ w) (sym (div-one n))
 
-  pub low-claim : w ≡ v → Claim ρ g (ty.Bits w) (concatMeans (ty.Bits w) v (value ρ g high) (value ρ g low)) (plan.slice low 0 w)
+  low-claim : w ≡ v → Claim ρ g (ty.Bits w) (concatMeans (ty.Bits w) v (value ρ g high) (value ρ g low)) (plan.slice low 0 w)
   low-claim e =
       slice-claim low 0 (c .3)
       (λ z j. (j .y, j .right, whole (j .x * 2 ^ v + j .y) ∙ slice-low (j .x) (j .y) v 0 w (j .below) (omega arith)))
 
-  pub high-claim : v ≡ 0 → Claim ρ g (ty.Bits w) (concatMeans (ty.Bits w) v (value ρ g high) (value ρ g low)) (plan.slice high 0 w)
+  high-claim : v ≡ 0 → Claim ρ g (ty.Bits w) (concatMeans (ty.Bits w) v (value ρ g high) (value ρ g low)) (plan.slice high 0 w)
   high-claim e =
       slice-claim high 0 (c .2)
       (λ z j. (
@@ -337,10 +323,10 @@ module _ {ρ : World} {g : List ℕ} (i : Inv ρ g) (high low v w : ℕ) (c : Ca
         (λ z. concatTyped (ext-type e high (c .2) z) (ext-type e low (c .3) z) v w) ∙ c .4,
       ))
 
-  says : (f : Field) → bitfield g high low v w ≡ some f → (z : ℕ) (j : Joins ρ g high low v w z) → FieldSays ρ g (j .x * 2 ^ v + j .y) w f
+  says : (f : Field) → foldBitfieldConcat g high low v w ≡ some f → (z : ℕ) (j : Joins ρ g high low v w z) → FieldSays ρ g (j .x * 2 ^ v + j .y) w f
   says f e z j = field-sound ρ g i high low v w (j .x) (j .y) (c .2) (c .3) (j .left) (j .right) (c .4) (c .1) f e
 
-  based-claim : (f : Field) → bitfield g high low v w ≡ some f → (b : ℕ) → f .base ≡ some b → sameType (typeAt g b) (ty.Bits w) ≡ true
+  based-claim : (f : Field) → foldBitfieldConcat g high low v w ≡ some f → (b : ℕ) → f .base ≡ some b → sameType (typeAt g b) (ty.Bits w) ≡ true
       → Firsts
       (tries (plan.masked (record { type = ty.Bits w; base = b; mask = f .keep; result = ty.Bits w; op = bi.Or; literal = f .literal }))
       (concatRest high low v w))
@@ -350,10 +336,10 @@ module _ {ρ : World} {g : List ℕ} (i : Inv ρ g) (high low v w : ℕ) (c : Ca
           bits-number (c .1) (f .keep),
           bits-number (c .1) (f .literal),
           subst (BaseHere g) eb (base-here i high low v (c .2) (c .3) w f e),
-          (λ k. both (t k) (own k)),
+          (λ k. t k && own k),
           refl,
           c .1,
-          (λ k. both (own k) (own k)),
+          (λ k. own k && own k),
           λ sure z q.
               let j = joins z q in
               let s = says f e z j in
@@ -366,7 +352,7 @@ module _ {ρ : World} {g : List ℕ} (i : Inv ρ g) (high low v w : ℕ) (c : Ca
         rest-claim,
       )
 
-  field-claim : (f : Field) → bitfield g high low v w ≡ some f
+  field-claim : (f : Field) → foldBitfieldConcat g high low v w ≡ some f
       → Firsts (fieldPlan g high low v w f)
   field-claim f e =
       by-given Firsts (f .base)
@@ -384,9 +370,9 @@ module _ {ρ : World} {g : List ℕ} (i : Inv ρ g) (high low v w : ℕ) (c : Ca
       → Firsts (given (adjacent a b v w) does (concatField g high low v w))
   open-claim none b p q k = k
   open-claim (some a) none p q k = k
-  open-claim (some a) (some b) p q k = go (both (eqb (a .value) (b .value)) (eqb (a .offset) (b .offset + v))) refl
+  open-claim (some a) (some b) p q k = go (eqb (a .value) (b .value) && eqb (a .offset) (b .offset + v)) refl
     where
-      go : (t : Bool) → both (eqb (a .value) (b .value)) (eqb (a .offset) (b .offset + v)) ≡ t
+      go : (t : Bool) → eqb (a .value) (b .value) && eqb (a .offset) (b .offset + v) ≡ t
           → Firsts
           (given (only t (plan.slice (a .value) (b .offset) w)) does (concatField g high low v w))
       go true e =
@@ -416,5 +402,5 @@ module _ {ρ : World} {g : List ℕ} (i : Inv ρ g) (high low v w : ℕ) (c : Ca
       constants-claim (let s = sides (typeAt g high) (typeAt g low) v w (c .4) in let n = s .narrow in let x = eqb-false w v e in let l = c .1 in omega arith) (literal g high)
       (literal g low) refl refl
       (open-claim (cutOf (operationAt g high)) (cutOf (operationAt g low)) refl refl
-      (by-given Firsts (bitfield g high low v w) field-claim
+      (by-given Firsts (foldBitfieldConcat g high low v w) field-claim
       (λ n. concat-plan-claim ρ g high low v w c)))))

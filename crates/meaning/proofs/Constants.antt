@@ -25,13 +25,13 @@ use Rattle.graph.specs.Node as node
 use Rattle.graph.specs.Insert.{constantInterval}
 use Rattle.graph.proofs.Codes.{lowEnd, highEnd}
 use Rattle.meaning.specs.Value.{size, integerOf, ofType, valued}
-use Rattle.meaning.proofs.Worlds.{World, operationMeans, value}
+use Rattle.meaning.proofs.Worlds.{World, operationMeans, operand}
 use Rattle.meaning.proofs.Values.{typed-of}
 use Rattle.meaning.proofs.Invariant.{Ends, Within, Storable}
 
 -- ---- sizes
 
-pub size-le : (t : ScalarType) → typeWidth t ≤ 128 → size t ≤ 2 ^ 128
+size-le : (t : ScalarType) → typeWidth t ≤ 128 → size t ≤ 2 ^ 128
 size-le ty.Bool l = pow-mono {i = 1} {j = 128} (omega arith)
 size-le (ty.Bits w) l = pow-mono l
 size-le ty.Integer l = le-refl (2 ^ 128)
@@ -135,7 +135,7 @@ pub stored-high : (r : Option Interval) → ((a : Interval) → r ≡ some a →
 stored-high = stored-end highEnd refl (λ a e. e .high)
 
 module _ (ρ : World) (g : List ℕ) (t : ScalarType) (c : ℕ) (l : typeWidth t ≤ 128) (h : c < size t) where
-  pub constant-means : operationMeans ρ t (node.constant c) (value ρ g) ≡ some c
+  pub constant-means : operationMeans ρ t (node.constant c) (operand ρ g) ≡ some c
   constant-means = valued-same t c h
 
   pub constant-storable : Storable ρ g t (constantInterval t c) (node.constant c)

@@ -1,6 +1,6 @@
 -- What is told of single bits of nodes is so, and with it the two folds of bitfields. Assumes nothing.
 use mathlib.Core.Path.{_≡_, refl, sym, ap, _∙_, subst}
-use mathlib.Core.Bool.{Bool, true, false, cond, not}
+use mathlib.Core.Bool.{Bool, true, false, cond, not, _&&_, _||_}
 use mathlib.Core.List.{List}
 use mathlib.Core.Logic.{_⊎_, inl, inr, ⊎-elim}
 use mathlib.Core.Option.{Option, none, some}
@@ -12,10 +12,10 @@ use borrow.Author.Tests.{leb-true, leb-false, ltb-true, ltb-false, eqb-true, eqb
 use lib.Bits.{bitAnd, bitOr, bitXor, or-shifted-r, or-zero-r, and-le-r, or-lt, and-mask}
 use lib.Dec.{eqb, ltb, leb}
 use lib.Pow.{pow-pos, pow-lt, not-mod}
-use Rattle.range.specs.Interval.{both, one}
+use Rattle.word.specs.Option.{fromBool, given}
 use Rattle.range.specs.declared.ScalarType.{ScalarType}
 use Rattle.range.specs.declared.ScalarType.the-variants as ty
-use Rattle.evaluate.specs.Evaluate.{fromBool, evaluateUnary, evaluateBinary}
+use Rattle.evaluate.specs.Evaluate.{unaryValue, binaryValue}
 use Rattle.evaluate.specs.Operator.{typeWidth}
 use Rattle.evaluate.specs.U128 as u128
 use Rattle.evaluate.specs.declared.Unary.{Unary}
@@ -26,8 +26,8 @@ use Rattle.graph.specs.Layout.{countOf}
 use Rattle.graph.specs.Node as node
 use Rattle.graph.specs.Node.{Op, typeAt, operationAt}
 use Rattle.graph.specs.Insert.{start, literalOf, literal}
-use Rattle.fold.specs.Shape.{given, sameType, sameBinary, mask, Chain, chained, chainOf, chainAt}
-use Rattle.bitfield.specs.Bitfield.{Bit, known, source, BitStep, here, from, flipped, hasBit, above, maskedBit, unaryBit, bitOf, bitStep, turned, reached, DEPTH, bitAt, Field, noBits, power, sameBase, withBit, concatBit, fieldFrom, lowFits, bitfield, Mask, Update, updateOf, updateAt, Look, next, end, found, keeps, changed, lookTyped, lookAt, firstFound, maskedComparison}
+use Rattle.fold.specs.Shape.{sameType, sameBinary, mask, ByConstant, withConstant, byConstantOf, byConstantAt}
+use Rattle.bitfield.specs.Bitfield.{Bit, known, source, BitStep, here, from, flipped, hasBit, above, maskedBit, unaryBit, bitOf, bitStep, negatedBit, reached, DEPTH, bitAt, Field, noBits, power, sameBase, withBit, concatBit, fieldFrom, lowFits, foldBitfieldConcat, Mask, Update, updateOf, updateAt, Look, next, end, found, keeps, changedBits, lookTyped, lookAt, firstFound, foldMaskedComparison}
 use Rattle.native.specs.Typing.{concatTyped}
 use Rattle.range.proofs.Sound.{tests}
 use Rattle.range.proofs.Answers.{none-some, some-is, provided-is}
@@ -35,7 +35,7 @@ use Rattle.bits.specs.Bit.{bit}
 use Rattle.bits.proofs.Bit.{bit-lt, bit-zero, bit-ext, bit-and, bit-or, bit-xor, bit-big, bit-shr, bit-mod, bit-mod-big, bit-high, bit-low-part}
 use Rattle.bits.proofs.Logic.{field-kept, kept-field}
 use Rattle.meaning.specs.Value.{size, ofType, valued, andThen, binaryMeans}
-use Rattle.meaning.proofs.Worlds.{World, operationMeans, value}
+use Rattle.meaning.proofs.Worlds.{World, operationMeans, operand, value}
 use Rattle.meaning.proofs.Answers.{binary-is, by-test, by-given, given-is}
 use Rattle.meaning.proofs.Values.{typed-is, typed-of, then-is}
 use Rattle.meaning.proofs.Invariant.{storedTyped, Typed, Inv, inv-below, inv-width, inv-step}
@@ -88,8 +88,8 @@ past-zero ty.Integer v i q l e = bit-big v 128 i l e
 
 module _ (ρ : World) (g : List ℕ) (inv : Inv ρ g) where
   -- what a node of this operation means
-  pub means-at : (n : ℕ) → n < countOf g → (v : ℕ) → value ρ g n ≡ some v → (o : Op) → operationAt g n ≡ o → operationMeans ρ (typeAt g n) o (value ρ g) ≡ some v
-  means-at n l v ev o e = sym (inv-step inv n l ∙ ap (λ (p : Op). operationMeans ρ (typeAt g n) p (value ρ g)) e) ∙ ev
+  pub means-at : (n : ℕ) → n < countOf g → (v : ℕ) → value ρ g n ≡ some v → (o : Op) → operationAt g n ≡ o → operationMeans ρ (typeAt g n) o (operand ρ g) ≡ some v
+  means-at n l v ev o e = sym (inv-step inv n l ∙ ap (λ (p : Op). operationMeans ρ (typeAt g n) p (operand ρ g)) e) ∙ ev
 
   pub below-at : (n : ℕ) → n < countOf g → (o : Op) → operationAt g n ≡ o → start o ≤ n
   below-at n l o e = subst (λ (p : Op). start p ≤ n) e (inv-below inv n l)
@@ -100,7 +100,7 @@ module _ (ρ : World) (g : List ℕ) (inv : Inv ρ g) where
   constant-value : (n c : ℕ) → n < countOf g → operationAt g n ≡ node.constant c → value ρ g n ≡ some c
   constant-value n c l e =
       let s : c < size (typeAt g n) = typed-at n l (node.constant c) e in
-      inv-step inv n l ∙ ap (λ (p : Op). operationMeans ρ (typeAt g n) p (value ρ g)) e ∙ ap (ofType (typeAt g n)) (reduced-same (typeAt g n) c s)
+      inv-step inv n l ∙ ap (λ (p : Op). operationMeans ρ (typeAt g n) p (operand ρ g)) e ∙ ap (ofType (typeAt g n)) (reduced-same (typeAt g n) c s)
       ∙ typed-of (typeAt g n) c s
 
   pub literal-value : (n c : ℕ) → n < countOf g → literal g n ≡ some c → value ρ g n ≡ some c
@@ -126,28 +126,28 @@ pub record Operands (ρ : World) (g : List ℕ) (t : ScalarType) (o : Binary) (i
   pub y : ℕ
   pub left : value ρ g i ≡ some x
   pub right : value ρ g j ≡ some y
-  pub means : andThen (evaluateBinary o t x y) (ofType t) ≡ some v
+  pub means : andThen (binaryValue o t x y) (ofType t) ≡ some v
 
 pub operands : (ρ : World) (g : List ℕ) (t : ScalarType) (o : Binary) (i j v : ℕ) → binaryMeans t o (value ρ g i) (value ρ g j) ≡ some v → Operands ρ g t o i j v
 operands ρ g t o i j v e =
-    let p = then-is (value ρ g i) (λ x. andThen (value ρ g j) (λ y. andThen (evaluateBinary o t x y) (ofType t))) v e in
-    let q = then-is (value ρ g j) (λ y. andThen (evaluateBinary o t (p .0) y) (ofType t)) v (p .2) in
+    let p = then-is (value ρ g i) (λ x. andThen (value ρ g j) (λ y. andThen (binaryValue o t x y) (ofType t))) v e in
+    let q = then-is (value ρ g j) (λ y. andThen (binaryValue o t (p .0) y) (ofType t)) v (p .2) in
     record { x = p .0; y = q .0; left = p .1; right = q .1; means = q .2 }
 
-and-means : (t : ScalarType) (x y v : ℕ) → andThen (evaluateBinary bi.And t x y) (ofType t) ≡ some v → valued t (bitAnd x y) ≡ some v
-unfolding evaluateBinary
+and-means : (t : ScalarType) (x y v : ℕ) → andThen (binaryValue bi.And t x y) (ofType t) ≡ some v → valued t (bitAnd x y) ≡ some v
+unfolding binaryValue
 and-means t x y v e = e
 
-or-means : (t : ScalarType) (x y v : ℕ) → andThen (evaluateBinary bi.Or t x y) (ofType t) ≡ some v → valued t (bitOr x y) ≡ some v
-unfolding evaluateBinary
+or-means : (t : ScalarType) (x y v : ℕ) → andThen (binaryValue bi.Or t x y) (ofType t) ≡ some v → valued t (bitOr x y) ≡ some v
+unfolding binaryValue
 or-means t x y v e = e
 
-xor-means : (t : ScalarType) (x y v : ℕ) → andThen (evaluateBinary bi.Xor t x y) (ofType t) ≡ some v → valued t (bitXor x y) ≡ some v
-unfolding evaluateBinary
+xor-means : (t : ScalarType) (x y v : ℕ) → andThen (binaryValue bi.Xor t x y) (ofType t) ≡ some v → valued t (bitXor x y) ≡ some v
+unfolding binaryValue
 xor-means t x y v e = e
 
-truncated-means : (t : ScalarType) (w x v : ℕ) → andThen (evaluateUnary (un.Truncate w) x) (valued t) ≡ some v → valued t (x % 2 ^ w) ≡ some v
-unfolding evaluateUnary
+truncated-means : (t : ScalarType) (w x v : ℕ) → andThen (unaryValue (un.Truncate w) x) (valued t) ≡ some v → valued t (x % 2 ^ w) ≡ some v
+unfolding unaryValue
 truncated-means t w x v e = e
 
 -- a concat's parts
@@ -158,7 +158,7 @@ pub record Sides (a b : ScalarType) (v w : ℕ) : Type 0 where
 
 pub sides : (a b : ScalarType) (v w : ℕ) → concatTyped a b v w ≡ true → Sides a b v w
 sides a b v w e =
-    let p = tests (leb v w) (both (sameType a (ty.Bits (w - v))) (sameType b (ty.Bits v))) e in
+    let p = tests (leb v w) (sameType a (ty.Bits (w - v)) && sameType b (ty.Bits v)) e in
     let q = tests (sameType a (ty.Bits (w - v))) (sameType b (ty.Bits v)) (p .1) in
     record { narrow = leb-true v w (p .0); high = same-type a (ty.Bits (w - v)) (q .0); low = same-type b (ty.Bits v) (q .1) }
 
@@ -168,75 +168,53 @@ module _ (ρ : World) (g : List ℕ) (inv : Inv ρ g) (n i v : ℕ) (l : n < cou
   own : Says ρ g v i (source n i)
   own = (l, v, ev, refl)
 
+  -- the left operand of b with a constant, where b is f on single bits
+  masked : (o b : Binary) (p q c : ℕ) → operationAt g n ≡ node.binary o p q → literal g q ≡ some c → sameBinary o b ≡ true → (h f : ℕ → ℕ → ℕ)
+      → ((x y : ℕ) → andThen (binaryValue b (typeAt g n) x y) (ofType (typeAt g n)) ≡ some v → valued (typeAt g n) (h x y) ≡ some v)
+      → ((x y i : ℕ) → bit (h x y) i ≡ f (bit x i) (bit y i))
+      → (x : ℕ) × (p < countOf g) × (value ρ g p ≡ some x) × (bit v i ≡ f (bit x i) (fromBool (hasBit c i)))
+  masked o b p q c e lit same h f means bits =
+      let d = e ∙ ap (λ (a : Binary). node.binary a p q) (binary-is o b same) in
+      let under = below-at ρ g inv n l (node.binary b p q) d in
+      let s = operands ρ g (typeAt g n) b p q v (means-at ρ g inv n l v ev (node.binary b p q) d) in
+      let yc : s .y ≡ c = some-is (sym (s .right) ∙ literal-value ρ g inv q c (omega arith) lit) in (
+        s .x,
+        omega arith,
+        s .left,
+        valued-bit (typeAt g n) (h (s .x) (s .y)) v i (means (s .x) (s .y) (s .means)) a ∙ bits (s .x) (s .y) i
+            ∙ ap (f (bit (s .x) i)) (ap (λ (z : ℕ). bit z i) yc ∙ sym (set-is c i)),
+      )
+
+  module _ (p x : ℕ) (b : p < countOf g) (ex : value ρ g p ≡ some x) where
+    and-says : (h : Bool) → bit v i ≡ min (bit x i) (fromBool h) → StepSays ρ g v i (cond h (from p i) (here (known false)))
+    and-says true f = (b, x, ex, omega (arith, bit-lt x i))
+    and-says false f = omega arith
+
+    or-says : (h : Bool) → bit v i ≡ max (bit x i) (fromBool h) → StepSays ρ g v i (cond h (here (known true)) (from p i))
+    or-says true f = omega (arith, bit-lt x i)
+    or-says false f = (b, x, ex, omega arith)
+
+    xor-says : (h : Bool) → bit v i ≡ (bit x i + fromBool h) % 2 → StepSays ρ g v i (cond h (flipped p i) (from p i))
+    xor-says true f = (b, x, ex, omega (arith, bit-lt x i))
+    xor-says false f = (b, x, ex, omega (arith, bit-lt x i))
+
   masked-says : (o : Binary) (p q c : ℕ) → operationAt g n ≡ node.binary o p q → literal g q ≡ some c
       → StepSays ρ g v i (maskedBit o n (hasBit c i) p i)
-  masked-says bi.And p q c e lit =
-      let b = below-at ρ g inv n l (node.binary bi.And p q) e in
-      let s = operands ρ g (typeAt g n) bi.And p q v (means-at ρ g inv n l v ev (node.binary bi.And p q) e) in
-      let yc : s .y ≡ c = some-is (sym (s .right) ∙ literal-value ρ g inv q c (omega arith) lit) in
-      let f : bit v i ≡ min (bit (s .x) i) (bit (s .y) i) =
-      valued-bit (typeAt g n) (bitAnd (s .x) (s .y)) v i (and-means (typeAt g n) (s .x) (s .y) v (s .means)) a ∙ bit-and (s .x) (s .y) i in
-      go (s .x) (s .y) (s .left) yc f (hasBit c i) (set-is c i)
-    where
-      go : (x y : ℕ) → value ρ g p ≡ some x → y ≡ c → bit v i ≡ min (bit x i) (bit y i) → (h : Bool) → fromBool h ≡ bit c i
-          → StepSays ρ g v i (cond h (from p i) (here (known false)))
-      go x y ex ec f true h =
-          let b = below-at ρ g inv n l (node.binary bi.And p q) e in
-          (omega arith, x, ex, omega (arith, ap (λ (z : ℕ). bit z i) ec, bit-lt x i))
-      go x y ex ec f false h = omega (arith, ap (λ (z : ℕ). bit z i) ec)
-  masked-says bi.Or p q c e lit =
-      let b = below-at ρ g inv n l (node.binary bi.Or p q) e in
-      let s = operands ρ g (typeAt g n) bi.Or p q v (means-at ρ g inv n l v ev (node.binary bi.Or p q) e) in
-      let yc : s .y ≡ c = some-is (sym (s .right) ∙ literal-value ρ g inv q c (omega arith) lit) in
-      let f : bit v i ≡ max (bit (s .x) i) (bit (s .y) i) =
-      valued-bit (typeAt g n) (bitOr (s .x) (s .y)) v i (or-means (typeAt g n) (s .x) (s .y) v (s .means)) a ∙ bit-or (s .x) (s .y) i in
-      go (s .x) (s .y) (s .left) yc f (hasBit c i) (set-is c i)
-    where
-      go : (x y : ℕ) → value ρ g p ≡ some x → y ≡ c → bit v i ≡ max (bit x i) (bit y i) → (h : Bool) → fromBool h ≡ bit c i
-          → StepSays ρ g v i (cond h (here (known true)) (from p i))
-      go x y ex ec f true h = omega (arith, ap (λ (z : ℕ). bit z i) ec, bit-lt x i)
-      go x y ex ec f false h =
-          let b = below-at ρ g inv n l (node.binary bi.Or p q) e in
-          (omega arith, x, ex, omega (arith, ap (λ (z : ℕ). bit z i) ec, bit-lt x i))
-  masked-says bi.Xor p q c e lit =
-      let b = below-at ρ g inv n l (node.binary bi.Xor p q) e in
-      let s = operands ρ g (typeAt g n) bi.Xor p q v (means-at ρ g inv n l v ev (node.binary bi.Xor p q) e) in
-      let yc : s .y ≡ c = some-is (sym (s .right) ∙ literal-value ρ g inv q c (omega arith) lit) in
-      let f : bit v i ≡ (bit (s .x) i + bit (s .y) i) % 2 =
-      valued-bit (typeAt g n) (bitXor (s .x) (s .y)) v i (xor-means (typeAt g n) (s .x) (s .y) v (s .means)) a ∙ bit-xor (s .x) (s .y) i in
-      go (s .x) (s .y) (s .left) yc f (hasBit c i) (set-is c i)
-    where
-      go : (x y : ℕ) → value ρ g p ≡ some x → y ≡ c → bit v i ≡ (bit x i + bit y i) % 2 → (h : Bool) → fromBool h ≡ bit c i
-          → StepSays ρ g v i (cond h (flipped p i) (from p i))
-      go x y ex ec f true h =
-          let b = below-at ρ g inv n l (node.binary bi.Xor p q) e in
-          (omega arith, x, ex, omega (arith, ap (λ (z : ℕ). bit z i) ec, bit-lt x i))
-      go x y ex ec f false h =
-          let b = below-at ρ g inv n l (node.binary bi.Xor p q) e in
-          (omega arith, x, ex, omega (arith, ap (λ (z : ℕ). bit z i) ec, bit-lt x i))
-  masked-says bi.Add p q c e lit = own
-  masked-says bi.Sub p q c e lit = own
-  masked-says bi.Mul p q c e lit = own
-  masked-says bi.ShiftLeft p q c e lit = own
-  masked-says bi.ShiftRight p q c e lit = own
-  masked-says bi.ArithmeticShiftRight p q c e lit = own
-  masked-says bi.Equal p q c e lit = own
-  masked-says bi.NotEqual p q c e lit = own
-  masked-says bi.LessSigned p q c e lit = own
-  masked-says bi.LessUnsigned p q c e lit = own
-  masked-says bi.LessEqualSigned p q c e lit = own
-  masked-says bi.LessEqualUnsigned p q c e lit = own
-  masked-says bi.DivideSigned p q c e lit = own
-  masked-says bi.RemainderSigned p q c e lit = own
-  masked-says bi.DivideUnsigned p q c e lit = own
-  masked-says bi.RemainderUnsigned p q c e lit = own
+  masked-says o p q c e lit =
+      by-test (StepSays ρ g v i) (sameBinary o bi.And)
+      (λ s. let (x, b, ex, f) = masked o bi.And p q c e lit s bitAnd min (λ x y. and-means (typeAt g n) x y v) bit-and in and-says p x b ex (hasBit c i) f)
+      (λ s. by-test (StepSays ρ g v i) (sameBinary o bi.Or)
+      (λ s. let (x, b, ex, f) = masked o bi.Or p q c e lit s bitOr max (λ x y. or-means (typeAt g n) x y v) bit-or in or-says p x b ex (hasBit c i) f)
+      (λ s. by-test (StepSays ρ g v i) (sameBinary o bi.Xor)
+      (λ s. let (x, b, ex, f) = masked o bi.Xor p q c e lit s bitXor (λ a b. (a + b) % 2) (λ x y. xor-means (typeAt g n) x y v) bit-xor in xor-says p x b ex (hasBit c i) f)
+      (λ s. own)))
 
   unary-says : (o : Unary) (p : ℕ) → operationAt g n ≡ node.unary o p → StepSays ρ g v i (unaryBit o n p i)
   unary-says un.BoolNot p e = own
   unary-says un.BitNot p e = own
   unary-says un.Negate p e = own
   unary-says (un.Truncate w) p e =
-      let s = then-is (value ρ g p) (λ x. andThen (evaluateUnary (un.Truncate w) x) (valued (typeAt g n))) v (means-at ρ g inv n l v ev (node.unary (un.Truncate w) p) e) in
+      let s = then-is (value ρ g p) (λ x. andThen (unaryValue (un.Truncate w) x) (valued (typeAt g n))) v (means-at ρ g inv n l v ev (node.unary (un.Truncate w) p) e) in
       go (s .0) (s .1) (valued-bit (typeAt g n) (s .0 % 2 ^ w) v i (truncated-means (typeAt g n) w (s .0) v (s .2)) a) (ltb i w) refl
     where
       go : (x : ℕ) → value ρ g p ≡ some x → bit v i ≡ bit (x % 2 ^ w) i → (t : Bool) → ltb i w ≡ t → StepSays ρ g v i (cond t (from p i) (here (known false)))
@@ -299,12 +277,12 @@ module _ (ρ : World) (g : List ℕ) (inv : Inv ρ g) where
   unfolding bitStep
   step-says n i v l ev = go (leb 128 i) refl (above (typeAt g n) i) refl
     where
-      go : (x : Bool) → leb 128 i ≡ x → (y : Bool) → above (typeAt g n) i ≡ y → StepSays ρ g v i (cond (one x y) (here (known false)) (bitOf g n i (operationAt g n)))
+      go : (x : Bool) → leb 128 i ≡ x → (y : Bool) → above (typeAt g n) i ≡ y → StepSays ρ g v i (cond (x || y) (here (known false)) (bitOf g n i (operationAt g n)))
       go true p y q = past-zero (typeAt g n) v i (inv-width inv n l) (value-small inv n l v ev) (leb-true 128 i p)
       go false p true q = above-zero (typeAt g n) v i (value-small inv n l v ev) q
       go false p false q = op-says ρ g inv n i v l ev q (operationAt g n) refl
 
-  turned-says : (v u i j : ℕ) (o : Option Bit) → bit v i ≡ 1 - bit u j → ((b : Bit) → o ≡ some b → Says ρ g u j b) → (b : Bit) → turned o ≡ some b
+  turned-says : (v u i j : ℕ) (o : Option Bit) → bit v i ≡ 1 - bit u j → ((b : Bit) → o ≡ some b → Says ρ g u j b) → (b : Bit) → negatedBit o ≡ some b
       → Says ρ g v i b
   turned-says v u i j none f h b e = absurd (none-some e)
   turned-says v u i j (some (known true)) f h b e = subst (λ (c : Bit). Says ρ g v i c) (some-is e) (omega (arith, h (known true) refl))
@@ -445,7 +423,7 @@ module _ (ρ : World) (g : List ℕ) (x i : ℕ) where
   with-bit f r (known false) l h t e =
       subst (λ (k : Field). Parts ρ g x (suc i) (k .base) (k .keep) (k .literal)) (some-is e) (clear-place (f .base) (f .keep) (f .literal) h t)
   with-bit f r (source m j) l h t e =
-      let p = provided-is (both (eqb j i) (sameBase (f .base) m)) _ e in
+      let p = provided-is (eqb j i && sameBase (f .base) m) _ e in
       let q = tests (eqb j i) (sameBase (f .base) m) (p .0) in
       subst (λ (k : Field). Parts ρ g x (suc i) (k .base) (k .keep) (k .literal)) (some-is (p .1))
       (rw (with-power (f .keep) i l (h .small .0))
@@ -509,8 +487,8 @@ module _ (ρ : World) (g : List ℕ) (inv : Inv ρ g) (high low v w a b : ℕ) (
         (λ q e. says-same ρ g (a * 2 ^ v + b) a i (i - v) c (upper i (ltb-false i v q)) (bit-sound ρ g inv DEPTH high (i - v) a lh eh c e))
 
     -- a concat gathered as bits of one node and of a literal
-    pub field-sound : (f : Field) → bitfield g high low v w ≡ some f → FieldSays ρ g (a * 2 ^ v + b) w f
-    unfolding bitfield
+    pub field-sound : (f : Field) → foldBitfieldConcat g high low v w ≡ some f → FieldSays ρ g (a * 2 ^ v + b) w f
+    unfolding foldBitfieldConcat
     field-sound f e =
         let none-yet : Parts ρ g (a * 2 ^ v + b) 0 none 0 0 =
         record { base = 0; origin = tt; bare = λ q. refl; small = (omega arith, omega arith); places = λ j q. absurd (omega arith) } in
@@ -548,17 +526,17 @@ same-test w x keep lit lx lk ll apart = go (eqb (bitAnd x (2 ^ w - 1 - keep)) li
     go false e =
         ne-eqb x (bitOr (bitAnd x keep) lit) (λ q. eqb-false (bitAnd x (2 ^ w - 1 - keep)) lit e (field-kept w x keep lit lx lk ll apart q))
 
--- a node that is a chain: its operation on its base and a constant
-pub record Linked (g : List ℕ) (n : ℕ) (c : Chain) : Type 0 where
+-- a node that is an operation by a constant: its operation on its base and the constant
+pub record Linked (g : List ℕ) (n : ℕ) (c : ByConstant) : Type 0 where
   pub constant : ℕ
   pub operation : operationAt g n ≡ node.binary (c .op) (c .base) constant
   pub has : literal g constant ≡ some (c .value)
 
-pub linked : (g : List ℕ) (n : ℕ) (c : Chain) → chainAt g n ≡ some c → Linked g n c
-unfolding chainAt
+pub linked : (g : List ℕ) (n : ℕ) (c : ByConstant) → byConstantAt g n ≡ some c → Linked g n c
+unfolding byConstantAt
 linked g n c e = go (operationAt g n) refl e
   where
-    go : (p : Op) → operationAt g n ≡ p → chainOf g p ≡ some c → Linked g n c
+    go : (p : Op) → operationAt g n ≡ p → byConstantOf g p ≡ some c → Linked g n c
     go (node.constant k) q e = absurd (none-some e)
     go (node.input i) q e = absurd (none-some e)
     go (node.refine i) q e = absurd (none-some e)
@@ -568,32 +546,32 @@ linked g n c e = go (operationAt g n) refl e
     go (node.unary u i) q e = absurd (none-some e)
     go (node.binary b i j) q e = on (literal g j) refl e
       where
-        on : (k : Option ℕ) → literal g j ≡ k → chained b i k ≡ some c → Linked g n c
+        on : (k : Option ℕ) → literal g j ≡ k → withConstant b i k ≡ some c → Linked g n c
         on none d e = absurd (none-some e)
         on (some k) d e =
             let f : record { op = b; base = i; value = k } ≡ c = some-is e in
             record {
               constant = j;
-              operation = q ∙ ap (λ (h : Chain). node.binary (h .op) (h .base) j) f;
-              has = d ∙ ap (λ (h : Chain). some (h .value)) f;
+              operation = q ∙ ap (λ (h : ByConstant). node.binary (h .op) (h .base) j) f;
+              has = d ∙ ap (λ (h : ByConstant). some (h .value)) f;
             }
 
 -- node n is an operation by a constant
-module _ {ρ : World} {g : List ℕ} (i : Inv ρ g) (n : ℕ) (l : n < countOf g) (c : Chain) (f : Linked g n c) where
-  pub chain-here : (c .base < countOf g) × (f .constant < countOf g)
-  chain-here = let b = below-at ρ g i n l (node.binary (c .op) (c .base) (f .constant)) (f .operation) in (omega arith, omega arith)
+module _ {ρ : World} {g : List ℕ} (i : Inv ρ g) (n : ℕ) (l : n < countOf g) (c : ByConstant) (f : Linked g n c) where
+  pub by-constant-here : (c .base < countOf g) × (f .constant < countOf g)
+  by-constant-here = let b = below-at ρ g i n l (node.binary (c .op) (c .base) (f .constant)) (f .operation) in (omega arith, omega arith)
 
-  pub chain-typed : storedTyped (c .op) (typeAt g (c .base)) (typeAt g (f .constant)) (typeAt g n) ≡ true
-  chain-typed = typed-at ρ g i n l (node.binary (c .op) (c .base) (f .constant)) (f .operation)
+  pub by-constant-typed : storedTyped (c .op) (typeAt g (c .base)) (typeAt g (f .constant)) (typeAt g n) ≡ true
+  by-constant-typed = typed-at ρ g i n l (node.binary (c .op) (c .base) (f .constant)) (f .operation)
 
-  pub chain-means : (v : ℕ) → value ρ g n ≡ some v
-      → (x : ℕ) × (value ρ g (c .base) ≡ some x) × (evaluateBinary (c .op) (typeAt g n) x (c .value) ≡ some v)
-  chain-means v e =
+  pub by-constant-means : (v : ℕ) → value ρ g n ≡ some v
+      → (x : ℕ) × (value ρ g (c .base) ≡ some x) × (binaryValue (c .op) (typeAt g n) x (c .value) ≡ some v)
+  by-constant-means v e =
       let t = typeAt g n in
       let s = operands ρ g t (c .op) (c .base) (f .constant) v (means-at ρ g i n l v e (node.binary (c .op) (c .base) (f .constant)) (f .operation)) in
-      let y : s .y ≡ c .value = some-is (sym (s .right) ∙ literal-value ρ g i (f .constant) (c .value) (chain-here .1) (f .has)) in
-      let q = then-is (evaluateBinary (c .op) t (s .x) (s .y)) (ofType t) v (s .means) in
-      (s .x, s .left, ap (evaluateBinary (c .op) t (s .x)) (sym y) ∙ q .1 ∙ ap some (sym (typed-is t (q .0) v (q .2) .0)))
+      let y : s .y ≡ c .value = some-is (sym (s .right) ∙ literal-value ρ g i (f .constant) (c .value) (by-constant-here .1) (f .has)) in
+      let q = then-is (binaryValue (c .op) t (s .x) (s .y)) (ofType t) v (s .means) in
+      (s .x, s .left, ap (binaryValue (c .op) t (s .x)) (sym y) ∙ q .1 ∙ ap some (sym (typed-is t (q .0) v (q .2) .0)))
 
 -- y is x And c
 record AndSays (x y c w : ℕ) : Type 0 where
@@ -647,9 +625,9 @@ module _ (ρ : World) (g : List ℕ) (inv : Inv ρ g) where
         small = small;
       }
 
-  chain-value : (n w x y : ℕ) (c : Chain) → n < countOf g → typeAt g n ≡ ty.Bits w → chainAt g n ≡ some c → c .op ≡ bi.And → value ρ g (c .base) ≡ some x
+  by-constant-value : (n w x y : ℕ) (c : ByConstant) → n < countOf g → typeAt g n ≡ ty.Bits w → byConstantAt g n ≡ some c → c .op ≡ bi.And → value ρ g (c .base) ≡ some x
       → value ρ g n ≡ some y → AndSays x y (c .value) w
-  chain-value n w x y c l t e o ex ey =
+  by-constant-value n w x y c l t e o ex ey =
       let s = linked g n c e in
       and-value n (c .base) (s .constant) (c .value) w x y l (s .operation ∙ ap (λ (h : Binary). node.binary h (c .base) (s .constant)) o) (s .has) t ex ey
 
@@ -688,19 +666,19 @@ mask-swap ρ g o x y m s = record {
   means = eqb-sym x y ∙ s .means;
 }
 
-module _ (ρ : World) (g : List ℕ) (inv : Inv ρ g) (n w x y : ℕ) (l : n < countOf g) (t : typeAt g n ≡ ty.Bits w) (ey : value ρ g n ≡ some y) (c : Chain)
+module _ (ρ : World) (g : List ℕ) (inv : Inv ρ g) (n w x y : ℕ) (l : n < countOf g) (t : typeAt g n ≡ ty.Bits w) (ey : value ρ g n ≡ some y) (c : ByConstant)
     (o : c .op ≡ bi.And) (ex : value ρ g (c .base) ≡ some x) where
   -- the node itself is the And
-  bare-update : (u : Update) → some (record { preserved = n; literal = 0 }) ≡ some u → chainAt g (u .preserved) ≡ some c
+  bare-update : (u : Update) → some (record { preserved = n; literal = 0 }) ≡ some u → byConstantAt g (u .preserved) ≡ some c
       → UpdateSays x y (c .value) (u .literal) w
   bare-update u e q =
       let f : record { preserved = n; literal = 0 } ≡ u = some-is e in
       let fp : n ≡ u .preserved = ap (λ (h : Update). h .preserved) f in
       let fl : 0 ≡ u .literal = ap (λ (h : Update). h .literal) f in
-      let s = chain-value ρ g inv n w x y c l t (ap (chainAt g) fp ∙ q) o ex ey in
+      let s = by-constant-value ρ g inv n w x y c l t (ap (byConstantAt g) fp ∙ q) o ex ey in
       rw (← fl) (record { means = s .means ∙ sym (or-zero-r (bitAnd x (c .value))); keep = s .small; literal = pow-pos w })
 
-  update-says : (u : Update) → updateAt g n ≡ some u → chainAt g (u .preserved) ≡ some c → UpdateSays x y (c .value) (u .literal) w
+  update-says : (u : Update) → updateAt g n ≡ some u → byConstantAt g (u .preserved) ≡ some c → UpdateSays x y (c .value) (u .literal) w
   unfolding updateAt
   update-says u e q = go (operationAt g n) refl e
     where
@@ -724,7 +702,7 @@ module _ (ρ : World) (g : List ℕ) (inv : Inv ρ g) (n w x y : ℕ) (l : n < c
               let fp : i ≡ u .preserved = ap (λ (h : Update). h .preserved) f in
               let fl : k ≡ u .literal = ap (λ (h : Update). h .literal) f in
               let r = or-value ρ g inv n i j k w y l (d ∙ ap (λ (h : Binary). node.binary h i j) (binary-is b bi.Or zb)) zk t ey in
-              let s = chain-value ρ g inv i w x (r .left) c (r .here) (r .type) (ap (chainAt g) fp ∙ q) o ex (r .has) in
+              let s = by-constant-value ρ g inv i w x (r .left) c (r .here) (r .type) (ap (byConstantAt g) fp ∙ q) o ex (r .has) in
               rw (← fl) (record { means = r .means ∙ ap (λ (h : ℕ). bitOr h k) (s .means); keep = s .small; literal = r .small })
 
 next-found : {m : Mask} → next ≡ found m → ⊥
@@ -740,13 +718,13 @@ found-is e = cc
 pub record Looked (g : List ℕ) (o : Binary) (base updated : ℕ) (m : Mask) : Type 0 where
   pub width : ℕ
   pub update : Update
-  pub chain : Chain
+  pub shape : ByConstant
   pub typed : typeAt g base ≡ ty.Bits width
   pub also : typeAt g updated ≡ ty.Bits width
   pub updates : updateAt g updated ≡ some update
-  pub chains : chainAt g (update .preserved) ≡ some chain
-  pub kept : keeps base width (update .literal) chain ≡ true
-  pub is : changed o base width (update .literal) chain ≡ m
+  pub shaped : byConstantAt g (update .preserved) ≡ some shape
+  pub kept : keeps base width (update .literal) shape ≡ true
+  pub is : changedBits o base width (update .literal) shape ≡ m
 
 module _ (g : List ℕ) (o : Binary) where
   pub looked : (base updated : ℕ) (m : Mask) → lookAt g o base updated ≡ found m → Looked g o base updated m
@@ -764,18 +742,18 @@ module _ (g : List ℕ) (o : Binary) where
           (λ tu.
           by-given Finds (updateAt g updated)
           (λ u eu.
-          by-given Finds (chainAt g (u .preserved))
+          by-given Finds (byConstantAt g (u .preserved))
           (λ c ec.
           by-test Finds (keeps base w (u .literal) c)
           (λ k e.
           record {
             width = w;
             update = u;
-            chain = c;
+            shape = c;
             typed = tb;
             also = same-type (typeAt g updated) (ty.Bits w) tu;
             updates = eu;
-            chains = ec;
+            shaped = ec;
             kept = k;
             is = found-is e;
           })
@@ -785,8 +763,8 @@ module _ (g : List ℕ) (o : Binary) where
           (λ n e. absurd (next-found e))
 
   -- either node being the base
-  pub first-looked : (left right : ℕ) (m : Mask) → maskedComparison g o left right ≡ some m → (lookAt g o left right ≡ found m) ⊎ (lookAt g o right left ≡ found m)
-  unfolding maskedComparison
+  pub first-looked : (left right : ℕ) (m : Mask) → foldMaskedComparison g o left right ≡ some m → (lookAt g o left right ≡ found m) ⊎ (lookAt g o right left ≡ found m)
+  unfolding foldMaskedComparison
   first-looked left right m = go (lookAt g o left right) (lookAt g o right left)
     where
       go : (a b : Look) → firstFound a b ≡ some m → (a ≡ found m) ⊎ (b ≡ found m)
@@ -798,11 +776,11 @@ module _ (g : List ℕ) (o : Binary) where
 
 module _ (ρ : World) (g : List ℕ) (inv : Inv ρ g) (o : Binary) where
   module _ (base updated x y : ℕ) (lb : base < countOf g) (lu : updated < countOf g) (ex : value ρ g base ≡ some x) (ey : value ρ g updated ≡ some y) where
-    changed-says : (w : ℕ) (u : Update) (c : Chain) → typeAt g base ≡ ty.Bits w → typeAt g updated ≡ ty.Bits w → updateAt g updated ≡ some u
-        → chainAt g (u .preserved) ≡ some c → keeps base w (u .literal) c ≡ true → MaskSays ρ g o x y (changed o base w (u .literal) c)
+    changed-says : (w : ℕ) (u : Update) (c : ByConstant) → typeAt g base ≡ ty.Bits w → typeAt g updated ≡ ty.Bits w → updateAt g updated ≡ some u
+        → byConstantAt g (u .preserved) ≡ some c → keeps base w (u .literal) c ≡ true → MaskSays ρ g o x y (changedBits o base w (u .literal) c)
     changed-says w u c tb tu eu ec k =
-        let p = tests (sameBinary (c .op) bi.And) (both (eqb (c .base) base) (both (eqb (bitAnd (u .literal) (c .value)) 0) (leb (u .literal) (mask w)))) k in
-        let q = tests (eqb (c .base) base) (both (eqb (bitAnd (u .literal) (c .value)) 0) (leb (u .literal) (mask w))) (p .1) in
+        let p = tests (sameBinary (c .op) bi.And) (eqb (c .base) base && (eqb (bitAnd (u .literal) (c .value)) 0 && leb (u .literal) (mask w))) k in
+        let q = tests (eqb (c .base) base) (eqb (bitAnd (u .literal) (c .value)) 0 && leb (u .literal) (mask w)) (p .1) in
         let r = tests (eqb (bitAnd (u .literal) (c .value)) 0) (leb (u .literal) (mask w)) (q .1) in
         let same : c .base ≡ base = eqb-true (c .base) base (q .0) in
         let s =
@@ -830,9 +808,9 @@ module _ (ρ : World) (g : List ℕ) (inv : Inv ρ g) (o : Binary) where
     look-says : (m : Mask) → lookAt g o base updated ≡ found m → MaskSays ρ g o x y m
     look-says m e =
         let s = looked g o base updated m e in
-        subst (MaskSays ρ g o x y) (s .is) (changed-says (s .width) (s .update) (s .chain) (s .typed) (s .also) (s .updates) (s .chains) (s .kept))
+        subst (MaskSays ρ g o x y) (s .is) (changed-says (s .width) (s .update) (s .shape) (s .typed) (s .also) (s .updates) (s .shaped) (s .kept))
 
   pub masked-sound : (left right x y : ℕ) → left < countOf g → right < countOf g → value ρ g left ≡ some x → value ρ g right ≡ some y → (m : Mask)
-      → maskedComparison g o left right ≡ some m → MaskSays ρ g o x y m
+      → foldMaskedComparison g o left right ≡ some m → MaskSays ρ g o x y m
   masked-sound left right x y ll lr ex ey m e =
       ⊎-elim (look-says left right x y ll lr ex ey m) (λ q. mask-swap ρ g o x y m (look-says right left y x lr ll ey ex m q)) (first-looked g o left right m e)

@@ -12,6 +12,7 @@ use lib.IntN.{ℤ, pos}
 use lib.Pow.{pow-mono}
 use lib.Signed.{ltZ, leZ, _≤ℤ_}
 use Rattle.word.specs.Value.{signed}
+use Rattle.word.specs.Option.{mapped, fromBool, given}
 use Rattle.word.proofs.Integer.{signed-low}
 use Rattle.range.specs.Interval.{Interval, _∈_, nonnegative}
 use Rattle.range.specs.declared.ScalarType.{ScalarType}
@@ -19,7 +20,7 @@ use Rattle.range.specs.declared.ScalarType.the-variants as ty
 use Rattle.range.proofs.Answers.{none-some, some-is, provided-is}
 use Rattle.range.proofs.Order.{orders}
 use Rattle.range.proofs.Sound.{tests, at-most}
-use Rattle.evaluate.specs.Evaluate.{fromBool, mapped, evaluateUnary, evaluateBinary}
+use Rattle.evaluate.specs.Evaluate.{unaryValue, binaryValue}
 use Rattle.evaluate.specs.declared.Unary.the-variants as un
 use Rattle.evaluate.specs.declared.Binary.{Binary}
 use Rattle.graph.specs.Layout.{LIMIT, countOf}
@@ -29,10 +30,10 @@ use Rattle.graph.specs.Insert.{start}
 use Rattle.graph.specs.WellFormed.{isGraph}
 use Rattle.graph.proofs.Grown.{Graph, graph-facts, start-le}
 use Rattle.fold.specs.Operator.{comparisons}
-use Rattle.fold.specs.Shape.{given, isAny, fits}
+use Rattle.fold.specs.Shape.{isAny, fits}
 use Rattle.guard.specs.Condition.{Condition, negatedOf, negatedAt, behind, behindNots, Comparison, comparedBy, comparisonAt}
 use Rattle.guard.specs.Guard.{Guard, unsignedFor, guardBy, fitHost, guarded, sameBool, hostCompared, compared, matched}
-use Rattle.meaning.specs.Value.{Env, size, integerOf, ofType, andThen, unaryMeans, binaryMeans, operationMeans, value}
+use Rattle.meaning.specs.Value.{Env, size, integerOf, ofType, andThen, unaryMeans, binaryMeans, operationMeans, value, operand}
 use Rattle.meaning.specs.Guard.{BoolsBehind, InRange, Decides}
 use Rattle.meaning.proofs.Values.{typed-of, truth-small, value-step, means-small}
 use Rattle.meaning.proofs.Answers.{mapped-is, of-any}
@@ -78,7 +79,7 @@ host-small t x l (some a) m e =
 -- what a comparison says of x and y, and that the unsigned one says it of their low 64 bits, if they have no others
 abbrev Told : ℕ → ℕ → Binary → Type 0
 Told x y o =
-    (c : Bool) × (evaluateBinary o ty.Bool x y ≡ some (fromBool c))
+    (c : Bool) × (binaryValue o ty.Bool x y ≡ some (fromBool c))
     × (x < 2 ^ 64 → y < 2 ^ 64 → hostCompared (unsignedFor o) (x % 2 ^ 64) (y % 2 ^ 64) ≡ some c)
 
 module _ (x y : ℕ) where
@@ -92,29 +93,17 @@ module _ (x y : ℕ) where
       read n h = signed-low 128 n (lt-of-lt-of-le h (pow-mono {i = 64} {j = 127} (omega arith)))
 
   told : (o : Binary) → isAny comparisons o ≡ true → Told x y o
-  unfolding evaluateBinary
+  unfolding binaryValue
   told =
-      of-any (Told x y) comparisons (
-        (ltZ (signed 128 x) (signed 128 y), refl, λ l m. low ltb l m ∙ low-signed ltZ l m),
-        (
-          (ltb x y, refl, low ltb),
-          (
-            (leZ (signed 128 x) (signed 128 y), refl, λ l m. low leb l m ∙ low-signed leZ l m),
-            (
-              (leb x y, refl, low leb),
-              (
-                (eqb x y, refl, low eqb),
-                (
-                  (not (eqb x y), refl, low (λ a b. not (eqb a b))),
-                  tt,
-                ),
-              ),
-            ),
-          ),
-        ),
-      )
+      of-any (Told x y) comparisons
+      (ltZ (signed 128 x) (signed 128 y), refl, λ l m. low ltb l m ∙ low-signed ltZ l m)
+      (ltb x y, refl, low ltb)
+      (leZ (signed 128 x) (signed 128 y), refl, λ l m. low leb l m ∙ low-signed leZ l m)
+      (leb x y, refl, low leb)
+      (eqb x y, refl, low eqb)
+      (not (eqb x y), refl, low (λ a b. not (eqb a b)))
 
-comparison-is : (o : Op) (c : Comparison) → comparedBy o ≡ some c → (isAny comparisons (c .op) ≡ true) × (o ≡ node.binary (c .op) (c .left) (c .right))
+pub comparison-is : (o : Op) (c : Comparison) → comparedBy o ≡ some c → (isAny comparisons (c .op) ≡ true) × (o ≡ node.binary (c .op) (c .left) (c .right))
 comparison-is (node.constant n) c e = absurd (none-some e)
 comparison-is (node.input i) c e = absurd (none-some e)
 comparison-is (node.refine i) c e = absurd (none-some e)
@@ -126,7 +115,7 @@ comparison-is (node.binary o i j) c e =
     let p = provided-is (isAny comparisons o) _ e in
     rw (← some-is (p .1)) (p .0, refl)
 
-negated-is : (o : Op) (i : ℕ) → negatedOf o ≡ some i → o ≡ node.unary un.BoolNot i
+pub negated-is : (o : Op) (i : ℕ) → negatedOf o ≡ some i → o ≡ node.unary un.BoolNot i
 negated-is (node.constant n) i e = absurd (none-some e)
 negated-is (node.input j) i e = absurd (none-some e)
 negated-is (node.refine j) i e = absurd (none-some e)
@@ -147,7 +136,7 @@ unfolding negatedAt
 negated-at g n i e = negated-is (operationAt g n) i e
 
 not-means : (v : Bool) → unaryMeans ty.Bool un.BoolNot (some (fromBool v)) ≡ some (fromBool (not v))
-unfolding evaluateUnary
+unfolding unaryValue
 not-means v = ap (λ (b : Bool). ofType ty.Bool (fromBool b)) (zero-truth v) ∙ typed-of ty.Bool (fromBool (not v)) (truth-small (not v))
 
 -- ---- the values of nodes
@@ -172,9 +161,9 @@ module _ (ρ : Env) (g : List ℕ) where
     -- the value of a comparison
     comparison-value : (n : ℕ) → n < countOf g → typeAt g n ≡ ty.Bool → (o : Binary) (i j : ℕ) → operationAt g n ≡ node.binary o i j
         → (x y : ℕ) → value ρ g i ≡ some x → value ρ g j ≡ some y
-        → (c : Bool) → evaluateBinary o ty.Bool x y ≡ some (fromBool c) → value ρ g n ≡ some (fromBool c)
+        → (c : Bool) → binaryValue o ty.Bool x y ≡ some (fromBool c) → value ρ g n ≡ some (fromBool c)
     comparison-value n l t o i j d x y ex ey c e =
-        value-step ρ g n (start-le f n l) ∙ (λ k. operationMeans ρ (t k) (d k) (value ρ g)) ∙ (λ k. binaryMeans ty.Bool o (ex k) (ey k))
+        value-step ρ g n (start-le f n l) ∙ (λ k. operationMeans ρ (t k) (d k) (operand ρ g)) ∙ (λ k. binaryMeans ty.Bool o (ex k) (ey k))
         ∙ ap (λ (r : Option ℕ). andThen r (ofType ty.Bool)) e ∙ typed-of ty.Bool (fromBool c) (truth-small c)
 
     -- if the node of m has a truth value, so has n, and both are as expected or neither is
@@ -195,7 +184,7 @@ module _ (ρ : Env) (g : List ℕ) where
             let u = negated-at g n i d in
             let s : start (node.unary un.BoolNot i) ≤ n = rw u at (start-le f n l) in
             let (v, p, r) = ih i (omega arith) (λ j. rw d at (b (suc j))) c h in
-            let m = value-step ρ g n (start-le f n l) ∙ (λ j. operationMeans ρ (b 0 j) (u j) (value ρ g)) in
+            let m = value-step ρ g n (start-le f n l) ∙ (λ j. operationMeans ρ (b 0 j) (u j) (operand ρ g)) in
             (not v, m ∙ ap (unaryMeans ty.Bool un.BoolNot) p ∙ not-means v, r ∙ turned e v)
 
 -- ---- guards

@@ -1,6 +1,6 @@
 -- What holds of a grown graph where the values meet the conditions, and that an insertion keeps it. Assumes nothing.
 use mathlib.Core.Path.{_≡_, refl, sym, ap, _∙_, subst}
-use mathlib.Core.Bool.{Bool, true, false}
+use mathlib.Core.Bool.{Bool, true, cond, false, _&&_}
 use mathlib.Core.List.{List}
 use mathlib.Core.Logic.{_⊎_, inl, inr, ⊎-elim}
 use mathlib.Core.Option.{Option, none, some}
@@ -11,7 +11,7 @@ use native.Mathlib.Omega.{arith}
 use borrow.Author.Tests.{ltb-true, eq-eqb}
 use lib.Dec.{ltb, eqb}
 use lib.Signed.{mag, _≤ℤ_}
-use Rattle.range.specs.Interval.{Interval, _∈_, both}
+use Rattle.range.specs.Interval.{Interval, _∈_}
 use Rattle.range.specs.declared.ScalarType.{ScalarType}
 use Rattle.range.specs.declared.ScalarType.the-variants as ty
 use Rattle.range.proofs.Order.{orders}
@@ -30,10 +30,10 @@ use Rattle.graph.proofs.Appended.{Exact, Keys, exact-new, exact-old, keys-grown
 use Rattle.graph.proofs.Grown.{Graph, graph-facts, width-of, start-le, resolve-within}
 use Rattle.graph.proofs.Interned.{same-key, lowest-some}
 use Rattle.graph.proofs.Nodes.{Holds, type-read, range-read, operation-read, length-words, appended-made, appended-full, appended-count, appended-other, appended-new, node-other}
-use Rattle.fold.specs.Shape.{sameType, narrowType}
+use Rattle.fold.specs.Shape.{sameType, narrowType, sameBinary}
 use Rattle.native.specs.Typing.{isNumber, unaryTyped, binaryTyped, concatTyped}
 use Rattle.meaning.specs.Value.{size, integerOf}
-use Rattle.meaning.proofs.Worlds.{World, operationMeans, value}
+use Rattle.meaning.proofs.Worlds.{World, operationMeans, operand, value}
 use Rattle.meaning.proofs.Values.{value-same, value-step, means-same}
 
 -- ---- types of stored operations
@@ -46,25 +46,7 @@ shiftable a ty.Integer = sameType a ty.Integer
 
 -- the typing table of stored binary operations
 abbrev pub storedTyped : Binary → ScalarType → ScalarType → ScalarType → Bool
-storedTyped bi.Add a b t = binaryTyped bi.Add a b t
-storedTyped bi.Sub a b t = binaryTyped bi.Sub a b t
-storedTyped bi.Mul a b t = binaryTyped bi.Mul a b t
-storedTyped bi.And a b t = binaryTyped bi.And a b t
-storedTyped bi.Or a b t = binaryTyped bi.Or a b t
-storedTyped bi.Xor a b t = binaryTyped bi.Xor a b t
-storedTyped bi.ShiftLeft a b t = both (shiftable a t) (isNumber b)
-storedTyped bi.ShiftRight a b t = binaryTyped bi.ShiftRight a b t
-storedTyped bi.ArithmeticShiftRight a b t = binaryTyped bi.ArithmeticShiftRight a b t
-storedTyped bi.Equal a b t = binaryTyped bi.Equal a b t
-storedTyped bi.NotEqual a b t = binaryTyped bi.NotEqual a b t
-storedTyped bi.LessSigned a b t = binaryTyped bi.LessSigned a b t
-storedTyped bi.LessUnsigned a b t = binaryTyped bi.LessUnsigned a b t
-storedTyped bi.LessEqualSigned a b t = binaryTyped bi.LessEqualSigned a b t
-storedTyped bi.LessEqualUnsigned a b t = binaryTyped bi.LessEqualUnsigned a b t
-storedTyped bi.DivideSigned a b t = binaryTyped bi.DivideSigned a b t
-storedTyped bi.RemainderSigned a b t = binaryTyped bi.RemainderSigned a b t
-storedTyped bi.DivideUnsigned a b t = binaryTyped bi.DivideUnsigned a b t
-storedTyped bi.RemainderUnsigned a b t = binaryTyped bi.RemainderUnsigned a b t
+storedTyped o a b t = cond (sameBinary o bi.ShiftLeft) (shiftable a t && isNumber b) (binaryTyped o a b t)
 
 -- an operation of a node of type t: a constant is of its type, a Slice has its type's width, the others by the table
 abbrev pub Typed : List ℕ → ScalarType → Op → Type 0
@@ -150,7 +132,7 @@ module _ {ρ : World} {g : List ℕ} (i : Inv ρ g) where
   pub inv-width : (n : ℕ) → n < countOf g → typeWidth (typeAt g n) ≤ 128
   inv-width n l = width-of inv-graph n l
 
-pub inv-step : {ρ : World} {g : List ℕ} → Inv ρ g → (n : ℕ) → n < countOf g → value ρ g n ≡ operationMeans ρ (typeAt g n) (operationAt g n) (value ρ g)
+pub inv-step : {ρ : World} {g : List ℕ} → Inv ρ g → (n : ℕ) → n < countOf g → value ρ g n ≡ operationMeans ρ (typeAt g n) (operationAt g n) (operand ρ g)
 inv-step {ρ} {g} i n l = value-step (ρ .env) g n (inv-below i n l)
 
 -- its range, if it has one, passes question 1
@@ -187,6 +169,9 @@ module _ {g h : List ℕ} (e : Extends g h) (i : ℕ) (l : i < countOf g) where
 
 pub ext-value : (ρ : World) {g h : List ℕ} → Extends g h → (i : ℕ) → i < countOf g → value ρ h i ≡ value ρ g i
 ext-value ρ {g} {h} e i l = value-same (ρ .env) g h i (λ j q. ext-type e j (omega arith)) (λ j q. ext-operation e j (omega arith))
+
+ext-operand : (ρ : World) {g h : List ℕ} → Extends g h → (i : ℕ) → i < countOf g → operand ρ h i ≡ operand ρ g i
+ext-operand ρ e i l = (λ k. record { type = ext-type e i l k; val = ext-value ρ e i l k })
 
 typed-ext : {g h : List ℕ} → Extends g h → (t : ScalarType) (o : Op) → start o ≤ countOf g → Typed g t o → Typed h t o
 typed-ext e t (node.constant c) b w = w
@@ -277,7 +262,7 @@ pub record Storable (ρ : World) (g : List ℕ) (t : ScalarType) (r : Option Int
   pub typed : Typed g t o
   pub refined : ρ .sure → Refined (value ρ g) t o
   pub ends : (a : Interval) → r ≡ some a → Ends a
-  pub within : ρ .sure → (v : ℕ) → operationMeans ρ t o (value ρ g) ≡ some v → Within t v r
+  pub within : ρ .sure → (v : ℕ) → operationMeans ρ t o (operand ρ g) ≡ some v → Within t v r
 
 -- the graph that a call leaves
 pub record Kept (ρ : World) (g h : List ℕ) : Type 0 where
@@ -308,7 +293,7 @@ pub record Stands (ρ : World) (g : List ℕ) (t : ScalarType) (r : Option Inter
   pub here : n < countOf h
   pub above : start o ≤ n
   pub type : typeAt h n ≡ t
-  pub means : value ρ h n ≡ operationMeans ρ t o (value ρ g)
+  pub means : value ρ h n ≡ operationMeans ρ t o (operand ρ g)
   pub inside : Inside (rangeAt h n) r
 
 -- what is to hold of an insertion's answer and of the graph left
@@ -342,10 +327,10 @@ module _ (ρ : World) (g : List ℕ) (t : ScalarType) (r : Option Interval) (o :
     new = appended-new g t r o (inv-graph i .length) room (s .stored)
 
     -- what the new node means
-    new-means : value ρ grown (countOf g) ≡ operationMeans ρ t o (value ρ g)
+    new-means : value ρ grown (countOf g) ≡ operationMeans ρ t o (operand ρ g)
     new-means =
-        value-step (ρ .env) grown (countOf g) (rw (new .operation) (s .below)) ∙ (λ k. operationMeans ρ (new .type k) (new .operation k) (value ρ grown))
-        ∙ means-same (ρ .env) t (countOf g) o (s .below) (value ρ grown) (value ρ g) (λ n l. ext-value ρ grows n l)
+        value-step (ρ .env) grown (countOf g) (rw (new .operation) (s .below)) ∙ (λ k. operationMeans ρ (new .type k) (new .operation k) (operand ρ grown))
+        ∙ means-same (ρ .env) t (countOf g) o (s .below) (operand ρ grown) (operand ρ g) (λ n l. ext-operand ρ grows n l)
 
     -- what holds of the old nodes and of the new one
     each : (P : ℕ → Type 0) → ((n : ℕ) → n < countOf g → P n) → P (countOf g) → (n : ℕ) → n < countOf grown → P n
@@ -412,7 +397,7 @@ module _ (ρ : World) (g : List ℕ) (t : ScalarType) (r : Option Interval) (o :
         type = d .type ∙ type-read g n t r o (s .stored) key;
         means =
             d .means ∙ inv-step i n l
-            ∙ (λ k. operationMeans ρ (type-read g n t r o (s .stored) key k) (operation-read g n t r o (s .stored) key k) (value ρ g));
+            ∙ (λ k. operationMeans ρ (type-read g n t r o (s .stored) key k) (operation-read g n t r o (s .stored) key k) (operand ρ g));
         inside = subst (Inside (rangeAt g (resolve g n))) (range-read g n t r o (s .stored) key) (d .inside);
       }
 
@@ -449,10 +434,10 @@ module _ (ρ : World) (g : List ℕ) (t : ScalarType) (r : Option Interval) (o :
   insert-leads m e = subst (λ (a : Reply). Inserted ρ g t r o a (inserted g t r o .words)) e insert-made .1
 
   -- an insertion keeps the invariant, and its node means the operation
-  pub insert-good : Answered ρ g t (operationMeans ρ t o (value ρ g)) (inserted g t r o .answer) (inserted g t r o .words)
+  pub insert-good : Answered ρ g t (operationMeans ρ t o (operand ρ g)) (inserted g t r o .answer) (inserted g t r o .words)
   insert-good = go (inserted g t r o .answer) insert-made
     where
-      go : (a : Reply) → Inserted ρ g t r o a (inserted g t r o .words) → Answered ρ g t (operationMeans ρ t o (value ρ g)) a (inserted g t r o .words)
+      go : (a : Reply) → Inserted ρ g t r o a (inserted g t r o .words) → Answered ρ g t (operationMeans ρ t o (operand ρ g)) a (inserted g t r o .words)
       go (insert.id n) k = (k .0, record { here = k .1 .here; type = k .1 .type; means = λ y v q. k .1 .means ∙ q })
       go insert.nothing k = k
       go insert.room k = k

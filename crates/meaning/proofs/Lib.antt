@@ -4,6 +4,7 @@ pub mod Invariant
 pub mod Tree
 pub mod Retain
 pub mod Constants
+pub mod Patterns
 pub mod Plans
 pub mod Views
 pub mod Modular

@@ -10,9 +10,11 @@ use lib.ListN.{length, getD}
 use lib.Seq.{ext-getD}
 use Rattle.graph.specs.Layout.{countOf}
 use Rattle.graph.specs.WellFormed.{isGraph}
-use Rattle.retain.specs.Retain.{isKept, isChoice, keptBelow, newId, newIds, retained}
-use Rattle.retain.proofs.Operands.{Choice, choice-facts}
+use Rattle.retain.specs.Retain.{isKept, isKeepList, keptBelow, newId, newIds, retained}
+use Rattle.retain.proofs.Operands.{KeepList, keep-list-facts}
 use Rattle.retain.proofs.Moving.{ids-length, ids-at}
+use Rattle.answer.specs.declared.Refusal.{Refusal}
+use Rattle.answer.specs.declared.Refusal.the-variants as no
 use Rattle.native.specs.Retain as retaining
 use Rattle.native.specs.Retain.{Retention, retention, retainInGraph, retainCall}
 use Rattle.meaning.specs.Book.{keeps, renumbered, renumbering}
@@ -84,15 +86,15 @@ renumbering-at next (k ∷ ks) (suc n) l =
 
 -- what holds of a retain's work, once question 6 is answered, holds of a retain that isn't refused
 of-kept : (P : Retention → Type 0) (g keep mapping : List ℕ) (k : ℕ) → retainCall g keep mapping .outcome ≡ retaining.kept k
-    → (Choice g keep mapping → P (retention (retaining.kept (keptBelow keep (countOf g))) (retained g keep) (newIds keep (countOf g))))
+    → (KeepList g keep mapping → P (retention (retaining.kept (keptBelow keep (countOf g))) (retained g keep) (newIds keep (countOf g))))
     → P (retainCall g keep mapping)
 unfolding retainCall retainInGraph
 of-kept P g keep mapping k q h =
     by-test (λ r. r .outcome ≡ retaining.kept k → P r) (isGraph g)
-    (λ e. by-test (λ r. r .outcome ≡ retaining.kept k → P r) (isChoice g keep mapping) (λ c p. h (choice-facts g keep mapping c)) (λ c. refused 6 g mapping))
-    (λ e. refused 1 g mapping) q
+    (λ e. by-test (λ r. r .outcome ≡ retaining.kept k → P r) (isKeepList g keep mapping) (λ c p. h (keep-list-facts g keep mapping c)) (λ c. refused no.Keep g mapping))
+    (λ e. refused no.Graph g mapping) q
   where
-    refused : (a : ℕ) (g mapping : List ℕ) → retaining.refused a ≡ retaining.kept k → P (retention (retaining.refused a) g mapping)
+    refused : (a : Refusal) (g mapping : List ℕ) → retaining.refused a ≡ retaining.kept k → P (retention (retaining.refused a) g mapping)
     refused a g mapping p = let z : _≡_ {A = ℕ} 0 1 = cc in absurd (omega arith)
 
 module _ (keep : List ℕ) where

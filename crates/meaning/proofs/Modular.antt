@@ -1,6 +1,6 @@
 -- A truncation pushed through arithmetic, and seen through Refines: modular's plan claims what is asked of it. Assumes nothing.
 use mathlib.Core.Path.{_≡_, refl, sym, ap, _∙_, subst}
-use mathlib.Core.Bool.{Bool, true, false, false≢true}
+use mathlib.Core.Bool.{Bool, true, false, false≢true, _&&_}
 use mathlib.Core.List.{List}
 use mathlib.Core.Option.{Option, some}
 use Prim.Native.Nat.{ℕ, zero, suc, _+_, _-_, _*_, _%_, _^_, _≤_, _<_}
@@ -10,13 +10,13 @@ use borrow.Author.Tests.{eq-eqb, leb-true}
 use lib.Bits.{bitAnd, bitOr, bitXor, and-mod, or-mod, xor-mod}
 use lib.Dec.{lit<}
 use lib.IntN.{ℤ, pos, _+ℤ_, _-ℤ_, _*ℤ_}
-use Rattle.word.specs.Value.{signed, residue, fits, fitted, only}
+use Rattle.word.specs.Value.{signed, residue, fits, fitted}
+use Rattle.word.specs.Option.{only, mapped}
 use Rattle.word.proofs.Integer.{residue-add, residue-sub, residue-mul, residue-pos, residue-signed, signed-residue}
-use Rattle.range.specs.Interval.{both}
 use Rattle.range.specs.declared.ScalarType.{ScalarType}
 use Rattle.range.specs.declared.ScalarType.the-variants as ty
 use Rattle.range.proofs.Answers.{none-some, some-is}
-use Rattle.evaluate.specs.Evaluate.{mapped, reduced, evaluateBinary}
+use Rattle.evaluate.specs.Evaluate.{reduced, binaryValue}
 use Rattle.evaluate.specs.U128 as u128
 use Rattle.evaluate.specs.declared.Binary.{Binary}
 use Rattle.evaluate.specs.declared.Unary.the-variants as un
@@ -28,9 +28,9 @@ use Rattle.graph.specs.Node.{Op, typeAt, operationAt}
 use Rattle.graph.specs.Insert.{start}
 use Rattle.fold.specs.Shape.{sameType, isAny, refinedOf, refinedAt}
 use Rattle.plan.specs.Plan as plan
-use Rattle.plan.specs.Single.{View, same, source, viewFrom, viewAt, isWide, truncatedPlan, modularOf, modularPlan}
+use Rattle.plan.specs.OneOperand.{View, same, source, viewFrom, viewAt, isWide, truncatedPlan, modularOf, modularPlan}
 use Rattle.meaning.specs.Value.{size, ofType, valued, andThen, unaryMeans, binaryMeans}
-use Rattle.meaning.proofs.Worlds.{World, operationMeans, value}
+use Rattle.meaning.proofs.Worlds.{World, operationMeans, operand, value}
 use Rattle.meaning.proofs.Constants.{low-valued, pattern}
 use Rattle.meaning.proofs.Answers.{by-test, of-any, by-given}
 use Rattle.meaning.proofs.Values.{typed-is, then-is, then-typed}
@@ -128,13 +128,13 @@ module _ (F : ℕ → ℕ → ℕ) (parts : Parts F) (w p q : ℕ) where
 -- what is low in a result hangs on what is low in its operands
 module _ (w : ℕ) (wide : w ≤ 128) (p q y : ℕ) (lp : p < 2 ^ 128) (lq : q < 2 ^ 128) where
   abbrev Low : Binary → ScalarType → Type 0
-  Low o s = evaluateBinary o s p q ≡ some y → evaluateBinary o (ty.Bits w) (p % 2 ^ w) (q % 2 ^ w) ≡ some (y % 2 ^ w)
+  Low o s = binaryValue o s p q ≡ some y → binaryValue o (ty.Bits w) (p % 2 ^ w) (q % 2 ^ w) ≡ some (y % 2 ^ w)
 
   low-bits : (o : Binary) → isAny modularOps o ≡ true → (u : ℕ) → w ≤ u → Low o (ty.Bits u)
-  unfolding evaluateBinary
+  unfolding binaryValue
   low-bits =
       of-any (λ o. (u : ℕ) → w ≤ u → Low o (ty.Bits u)) modularOps
-      (sums _+ℤ_ sum residue-add, (sums _-ℤ_ difference residue-sub, (sums _*ℤ_ product residue-mul, (bits bitAnd and-mod, (bits bitOr or-mod, (bits bitXor xor-mod, tt))))))
+      (sums _+ℤ_ sum residue-add) (sums _-ℤ_ difference residue-sub) (sums _*ℤ_ product residue-mul) (bits bitAnd and-mod) (bits bitOr or-mod) (bits bitXor xor-mod)
     where
       sums : (f : ℤ → ℤ → ℤ) (G : ℕ → ℕ → ℕ → ℕ) → Residues f G → (u : ℕ) → w ≤ u → some (G 128 p q % 2 ^ u) ≡ some y
           → some (G 128 (p % 2 ^ w) (q % 2 ^ w) % 2 ^ w) ≡ some (y % 2 ^ w)
@@ -144,10 +144,10 @@ module _ (w : ℕ) (wide : w ≤ 128) (p q y : ℕ) (lp : p < 2 ^ 128) (lq : q <
       bits F a u l e = ap some (bitwise F a w p q ∙ sym (narrow (F p q) u w l) ∙ ap (λ (n : ℕ). n % 2 ^ w) (some-is e))
 
   low-integer : (o : Binary) → isAny modularOps o ≡ true → Low o ty.Integer
-  unfolding evaluateBinary
+  unfolding binaryValue
   low-integer =
       of-any (λ o. Low o ty.Integer) modularOps
-      (sums _+ℤ_ sum residue-add, (sums _-ℤ_ difference residue-sub, (sums _*ℤ_ product residue-mul, (bits bitAnd and-mod, (bits bitOr or-mod, (bits bitXor xor-mod, tt))))))
+      (sums _+ℤ_ sum residue-add) (sums _-ℤ_ difference residue-sub) (sums _*ℤ_ product residue-mul) (bits bitAnd and-mod) (bits bitOr or-mod) (bits bitXor xor-mod)
     where
       sums : (f : ℤ → ℤ → ℤ) (G : ℕ → ℕ → ℕ → ℕ) → Residues f G → checked (f (signed 128 p) (signed 128 q)) ≡ some y
           → some (G 128 (p % 2 ^ w) (q % 2 ^ w) % 2 ^ w) ≡ some (y % 2 ^ w)
@@ -171,7 +171,7 @@ module _ {ρ : World} {g : List ℕ} (i : Inv ρ g) where
     where
       own : (j : ℕ) → operationAt g n ≡ node.refine j → ρ .sure → value ρ g n ≡ value ρ g j
       own j q sure =
-          inv-step i n l ∙ ap (λ (o : Op). operationMeans ρ (typeAt g n) o (value ρ g)) q
+          inv-step i n l ∙ ap (λ (o : Op). operationMeans ρ (typeAt g n) o (operand ρ g)) q
           ∙ then-typed (typeAt g n) (value ρ g j) (λ x m. (subst (Refined (value ρ g) (typeAt g n)) q (i .refined n l sure)) x m)
 
       by : (o : Op) → operationAt g n ≡ o → refinedOf o ≡ some p → (p < n) × (ρ .sure → value ρ g n ≡ value ρ g p)
@@ -211,8 +211,8 @@ module _ {ρ : World} {g : List ℕ} (i : Inv ρ g) where
 
 modular-typed : (o : Binary) (w : ℕ) → isAny modularOps o ≡ true → storedTyped o (ty.Bits w) (ty.Bits w) (ty.Bits w) ≡ true
 modular-typed o w =
-    let same : both (sameType (ty.Bits w) (ty.Bits w)) (sameType (ty.Bits w) (ty.Bits w)) ≡ true = rw (eq-eqb w w refl) in
-    of-any (λ o. storedTyped o (ty.Bits w) (ty.Bits w) (ty.Bits w) ≡ true) modularOps (same, (same, (same, (same, (same, (same, tt)))))) o
+    let same : sameType (ty.Bits w) (ty.Bits w) && sameType (ty.Bits w) (ty.Bits w) ≡ true = rw (eq-eqb w w refl) in
+    of-any (λ o. storedTyped o (ty.Bits w) (ty.Bits w) (ty.Bits w) ≡ true) modularOps same same same same same same o
 
 module _ {ρ : World} {g : List ℕ} (i : Inv ρ g) (w : ℕ) (wide : w ≤ 128) where
   truncated-value : (a : ℕ) → unaryMeans (ty.Bits w) (un.Truncate w) (some a) ≡ some (a % 2 ^ w)
@@ -236,11 +236,11 @@ module _ {ρ : World} {g : List ℕ} (i : Inv ρ g) (w : ℕ) (wide : w ≤ 128)
         let y = p .0 in
         let is : x ≡ y % 2 ^ w = typed-is (ty.Bits w) (y % 2 ^ w) x (p .2) .0 in
         let v : binaryMeans (typeAt g s) o (value ρ g a) (value ρ g b) ≡ some y
-        = sym (inv-step i s l ∙ ap (λ (r : Op). operationMeans ρ (typeAt g s) r (value ρ g)) e) ∙ p .1 in
-        let c = then-is (value ρ g a) (λ h. andThen (value ρ g b) (λ k. andThen (evaluateBinary o (typeAt g s) h k) (ofType (typeAt g s)))) y v in
-        let d = then-is (value ρ g b) (λ k. andThen (evaluateBinary o (typeAt g s) (c .0) k) (ofType (typeAt g s))) y (c .2) in
-        let r = then-is (evaluateBinary o (typeAt g s) (c .0) (d .0)) (ofType (typeAt g s)) y (d .2) in
-        let z : evaluateBinary o (typeAt g s) (c .0) (d .0) ≡ some y = r .1 ∙ ap some (sym (typed-is (typeAt g s) (r .0) y (r .2) .0)) in
+        = sym (inv-step i s l ∙ ap (λ (r : Op). operationMeans ρ (typeAt g s) r (operand ρ g)) e) ∙ p .1 in
+        let c = then-is (value ρ g a) (λ h. andThen (value ρ g b) (λ k. andThen (binaryValue o (typeAt g s) h k) (ofType (typeAt g s)))) y v in
+        let d = then-is (value ρ g b) (λ k. andThen (binaryValue o (typeAt g s) (c .0) k) (ofType (typeAt g s))) y (c .2) in
+        let r = then-is (binaryValue o (typeAt g s) (c .0) (d .0)) (ofType (typeAt g s)) y (d .2) in
+        let z : binaryValue o (typeAt g s) (c .0) (d .0) ≡ some y = r .1 ∙ ap some (sym (typed-is (typeAt g s) (r .0) y (r .2) .0)) in
         let f = low-result w wide (c .0) (d .0) y (value-pattern i a la (c .0) (c .1)) (value-pattern i b lb (d .0) (d .1)) o m (typeAt g s) big z in
         (λ k. binaryMeans (ty.Bits w) o (unaryMeans (ty.Bits w) (un.Truncate w) (c .1 k)) (unaryMeans (ty.Bits w) (un.Truncate w) (d .1 k)))
         ∙ (λ k. binaryMeans (ty.Bits w) o (truncated-value (c .0) k) (truncated-value (d .0) k))

@@ -22,7 +22,7 @@ use Rattle.assume.proofs.Grows.{met-inside, narrows-full}
 use Rattle.assume.specs.Limits.{Limits, limitedTo, orEnd, meet, narrows}
 use Rattle.assume.specs.Refine.{Next, Outcome, unchanged, narrowed, full, Step, step, aliasTo, refineStep, goOn, refineUpTo, refined}
 use Rattle.meaning.specs.Value.{integerOf}
-use Rattle.meaning.proofs.Worlds.{World, operationMeans, value}
+use Rattle.meaning.proofs.Worlds.{World, operationMeans, operand, value}
 use Rattle.meaning.proofs.Values.{then-typed}
 use Rattle.meaning.proofs.Answers.{by-test, by-given, Each, each-none, each-some}
 use Rattle.meaning.proofs.Invariant.{Ends, Inside, inside-trans, Leads, Inv, inv-width, inv-valid, Extends, ext-here, ext-type, ext-range, ext-value, resolve-leads, Kept, kept-refl, kept-trans, Storable, Answered, insert-leads, insert-good}
@@ -115,7 +115,7 @@ module _ {ρ : World} {g : List ℕ} (i : Inv ρ g) (n : ℕ) (q : n < countOf g
 
     -- whatever it answers
     alias-stepped : (r : Reply) → inserted g (typeAt g n) (some new) (node.refine n) .answer ≡ r
-        → Answered ρ g (typeAt g n) (operationMeans ρ (typeAt g n) (node.refine n) (value ρ g)) r h → Stepped ρ g (aliasTo n new r h)
+        → Answered ρ g (typeAt g n) (operationMeans ρ (typeAt g n) (node.refine n) (operand ρ g)) r h → Stepped ρ g (aliasTo n new r h)
     alias-stepped (insert.id m) d k =
         let s = insert-leads ρ g (typeAt g n) (some new) (node.refine n) i storable m d in
         let x = k .0 .grows in

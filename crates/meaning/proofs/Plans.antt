@@ -23,7 +23,7 @@ use Rattle.build.specs.Rest.{restPlan}
 use Rattle.build.specs.Build.{Call, identity, unary, modular, binary, slice, concat, Prog, call, constantThen, answer, tail, byConstant, planProg, maskProg, attemptProg, firstProg}
 use Rattle.native.specs.Typing.{concatTyped}
 use Rattle.meaning.specs.Value.{size, valued, andThen, unaryMeans, binaryMeans, sliceMeans, concatMeans}
-use Rattle.meaning.proofs.Worlds.{World, operationMeans, value}
+use Rattle.meaning.proofs.Worlds.{World, operationMeans, operand, value}
 use Rattle.meaning.proofs.Values.{then-is}
 use Rattle.meaning.proofs.Invariant.{shiftable, storedTyped, Inv, ext-here, ext-type, ext-value, Storable, Kept, Found}
 use Rattle.meaning.proofs.Constants.{constant-means, constant-storable}
@@ -64,8 +64,8 @@ module _ (ρ : World) (g : List ℕ) (t : ScalarType) (w : Option ℕ) where
   Tail c = Callable g c × (typeOf c ≡ t) × (ρ .sure → Covers w (meaning (value ρ g) c))
 
   -- a constant of type s, then an operation on node n and it
-  abbrev pub ByConstant : ScalarType → ℕ → ScalarType → Binary → ℕ → Type 0
-  ByConstant s v t′ o n =
+  abbrev pub ByConstantClaim : ScalarType → ℕ → ScalarType → Binary → ℕ → Type 0
+  ByConstantClaim s v t′ o n =
       Number s v × (t′ ≡ t) × (typeWidth t′ ≤ 128) × (n < countOf g) × (storedTyped o (typeAt g n) s t′ ≡ true)
       × (ρ .sure → Covers w (binaryMeans t′ o (value ρ g n) (some (reduced s v))))
 
@@ -74,7 +74,7 @@ module _ (ρ : World) (g : List ℕ) (t : ScalarType) (w : Option ℕ) where
   Claim (plan.give n) = Found ρ t w n g
   Claim plan.stop = Unit {0}
   Claim (plan.constant s v) = (s ≡ t) × Number s v × (ρ .sure → Covers w (some (reduced s v)))
-  Claim (plan.add s r o) = (s ≡ t) × Storable ρ g s r o × (ρ .sure → Covers w (operationMeans ρ s o (value ρ g)))
+  Claim (plan.add s r o) = (s ≡ t) × Storable ρ g s r o × (ρ .sure → Covers w (operationMeans ρ s o (operand ρ g)))
   Claim (plan.identity s n) = Tail (identity s n)
   Claim (plan.unary s o n) = Tail (unary s o n)
   Claim (plan.binary s o l r) = Tail (binary s o l r)
@@ -84,7 +84,7 @@ module _ (ρ : World) (g : List ℕ) (t : ScalarType) (w : Option ℕ) where
   Claim (plan.sliceShift n v s c) =
       Callable g (slice n 0 v) × (s ≡ t) × (typeWidth s ≤ 128) × Number ty.Integer c × (shiftable (ty.Bits v) s ≡ true)
       × (ρ .sure → Covers w (binaryMeans s bi.ShiftLeft (sliceMeans (ty.Bits v) 0 (value ρ g n)) (some (reduced ty.Integer c))))
-  Claim (plan.constantBinary s v t′ o n) = ByConstant s v t′ o n
+  Claim (plan.constantBinary s v t′ o n) = ByConstantClaim s v t′ o n
   Claim (plan.andOr s n m v) =
       Callable g (binary s bi.And n m) × (s ≡ t) × Number s v × (storedTyped bi.Or s s s ≡ true)
       × (ρ .sure → Covers w (binaryMeans s bi.Or (binaryMeans s bi.And (value ρ g n) (value ρ g m)) (some (reduced s v))))
@@ -137,7 +137,7 @@ module _ (ρ : World) (t : ScalarType) (w : Option ℕ) where
     λ n h a f. r n h a (f .here) (f .type) (λ y. f .means y (reduced s v) (constant-means ρ g s (reduced s v) (m .width) (m .small))),
   )
 
-  pub by-constant-good : (g : List ℕ) (s : ScalarType) (v : ℕ) (t′ : ScalarType) (o : Binary) (n : ℕ) → ByConstant ρ g t w s v t′ o n
+  pub by-constant-good : (g : List ℕ) (s : ScalarType) (v : ℕ) (t′ : ScalarType) (o : Binary) (n : ℕ) → ByConstantClaim ρ g t w s v t′ o n
       → Good ρ t w (byConstant s v t′ o n) g
   by-constant-good g s v t′ o n k =
       constant-good g s v (λ c. tail (binary t′ o n c)) (k .0)
@@ -153,7 +153,7 @@ module _ (ρ : World) (t : ScalarType) (w : Option ℕ) where
   perform-good g i plan.stop k = tt
   perform-good g i (plan.constant s v) k =
       constant-good g s v answer (k .1) (λ n h a here type means. record { here = here; type = type ∙ k .0; means = λ y x e. means y ∙ k .2 y x e })
-  perform-good g i (plan.add s r o) k = (k .1, λ n h a f. answer-good g h n s (operationMeans ρ s o (value ρ g)) (k .0) (k .2) f)
+  perform-good g i (plan.add s r o) k = (k .1, λ n h a f. answer-good g h n s (operationMeans ρ s o (operand ρ g)) (k .0) (k .2) f)
   perform-good g i (plan.identity s n) k = tail-good g (identity s n) k
   perform-good g i (plan.unary s o n) k = tail-good g (unary s o n) k
   perform-good g i (plan.binary s o l r) k = tail-good g (binary s o l r) k

@@ -1,6 +1,7 @@
 -- The range of a new node holds its value, if its operands' ranges hold theirs. Assumes nothing.
 use mathlib.Core.Path.{_≡_, refl, sym, ap, _∙_, subst}
-use mathlib.Core.Bool.{Bool, true, false, cond, false≢true}
+use mathlib.Core.Bool.{Bool, true, false, cond, false≢true, _&&_}
+use mathlib.Core.List.{List, [], _∷_}
 use mathlib.Core.Logic.{⊎-elim}
 use mathlib.Core.Option.{Option, none, some}
 use Prim.Native.Nat.{ℕ, _-_, _*_, _/_, _%_, _^_, _≤_, _<_}
@@ -12,15 +13,16 @@ use lib.Dec.{ltb, eqb}
 use lib.IntN.{ℤ, pos, negsuc, negℤ, _+ℤ_, _-ℤ_, _*ℤ_, natAbs}
 use lib.Pow.{pow-pos, pow-lt, pow-mono, ones-lt}
 use lib.Signed.{mag, ltZ, quotZ, remZ, _≤ℤ_, mag-rem}
-use Rattle.word.specs.Value.{residue, signed, fits, fitted, provided, isNeg, quotient, remainder}
+use Rattle.word.specs.Value.{residue, signed, fits, fitted, isNeg, quotient, remainder}
+use Rattle.word.specs.Option.{provided, mapped, bothGiven, orElse}
 use Rattle.word.proofs.Integer.{residue-pos, residue-sub, signed-low, signed-high, signed-residue, signed-mag, lt-or-ge}
-use Rattle.range.specs.Interval.{Interval, _∈_, both, nonnegative, bitsInterval, typeInterval, filtered, signExtended, negInterval, andInterval, udivInterval, uremInterval, shlInterval, shrInterval}
+use Rattle.range.specs.Interval.{Interval, _∈_, nonnegative, bitsInterval, typeInterval, filtered, signExtended, negInterval, andInterval, udivInterval, uremInterval, shlInterval, shrInterval}
 use Rattle.range.specs.declared.ScalarType.{ScalarType}
 use Rattle.range.specs.declared.ScalarType.the-variants as ty
 use Rattle.range.proofs.Order.{orders, less-true}
 use Rattle.range.proofs.Sound.{tests, neg-in, add-in, sub-in, mul-in, quot-in, rem-in, and-in, udiv-in, urem-in, shl-in, shr-in, filtered-in, type-in-bits, type-in-bool, sign-extended-in, at-most}
 use Rattle.range.proofs.Answers.{none-some, some-is, provided-is}
-use Rattle.evaluate.specs.Evaluate.{mapped, reduced, evaluateUnary, evaluateBinary, extended}
+use Rattle.evaluate.specs.Evaluate.{reduced, unaryValue, binaryValue, extended}
 use Rattle.evaluate.specs.Operator.{typeWidth}
 use Rattle.evaluate.specs.declared.Unary.{Unary}
 use Rattle.evaluate.specs.declared.Unary.the-variants as un
@@ -28,16 +30,21 @@ use Rattle.evaluate.specs.declared.Binary.{Binary}
 use Rattle.evaluate.specs.declared.Binary.the-variants as bi
 use Rattle.evaluate.proofs.Fields.{residue-narrow, extended-signed, fits-below}
 use Rattle.evaluate.proofs.Shifts.{shift-left, shift-right}
-use Rattle.graph.specs.Insert.{orElse}
+use Rattle.graph.specs.Layout.{countOf}
+use Rattle.graph.specs.Node as node
+use Rattle.graph.specs.Node.{Op}
+use Rattle.graph.specs.Insert.{constantInterval}
 use Rattle.fold.specs.Shape.{sameType, narrowType}
-use Rattle.fold.specs.Range.{bothGiven, negatedRange, heldTo, bitsRule, integerRule, unaryRange, binaryRange}
+use Rattle.fold.specs.Range.{negatedRange, heldTo, bitsRule, integerRule, unaryRange, binaryRange, Ranged, rangedAt, storedRange}
 use Rattle.native.specs.Typing.{isNumber, unaryTyped}
-use Rattle.meaning.specs.Value.{size, integerOf}
+use Rattle.meaning.specs.Value.{Env, Operand, size, integerOf, ofType, valued, andThen, operationMeans}
+use Rattle.meaning.proofs.Worlds.{World, value}
+use Rattle.meaning.proofs.Values.{typed-is, then-is, means-small}
 use Rattle.meaning.proofs.Modular.{difference, wraps}
-use Rattle.meaning.proofs.Answers.{mapped-is, both-given, each-else}
-use Rattle.meaning.proofs.Invariant.{storedTyped, Ends, Within}
-use Rattle.meaning.proofs.Constants.{pattern}
-use Rattle.meaning.proofs.Views.{same-type}
+use Rattle.meaning.proofs.Answers.{mapped-is, both-given, each-else, of-any, answering}
+use Rattle.meaning.proofs.Invariant.{storedTyped, Ends, Within, Inv}
+use Rattle.meaning.proofs.Constants.{pattern, valued-same, constant-within}
+use Rattle.meaning.proofs.Views.{same-type, value-small}
 
 -- ---- the readings of a pattern
 
@@ -55,13 +62,13 @@ low-in : (w n : ℕ) (a : Interval) → n < 2 ^ w → (signed w n) ∈ a → pos
 low-in w n a l f h = low-half w n l (not-below (signed w n) (omega orders))
 
 -- a rule that needs ranges that are not negative
-not-negative : (p q : Interval) (o : Option Interval) (a : Interval) → provided (both (nonnegative p) (nonnegative q)) o ≡ some a
+not-negative : (p q : Interval) (o : Option Interval) (a : Interval) → provided (nonnegative p && nonnegative q) o ≡ some a
     → (pos 0 ≤ℤ p .low) × (pos 0 ≤ℤ q .low)
 not-negative p q o a e =
     let d = tests (nonnegative p) (nonnegative q) (provided-is _ o e .0) in (at-most (pos 0) (p .low) (d .0), at-most (pos 0) (q .low) (d .1))
 
 -- the same, and a divisor above 0
-positive : (p q : Interval) (o : Option Interval) (a : Interval) → provided (both (nonnegative p) (ltZ (pos 0) (q .low))) o ≡ some a
+positive : (p q : Interval) (o : Option Interval) (a : Interval) → provided (nonnegative p && ltZ (pos 0) (q .low)) o ≡ some a
     → (pos 0 ≤ℤ p .low) × (pos 0 ≤ℤ q .low)
 positive p q o a e =
     let d = tests (nonnegative p) (ltZ (pos 0) (q .low)) (provided-is _ o e .0) in
@@ -103,6 +110,10 @@ read-low ty.Integer v a l f h = subst (λ (z : ℤ). z ∈ a) (signed-low 128 v 
 
 -- ---- Bits
 
+-- the operators with a rule on Bits
+abbrev pub bitsRules : List Binary
+bitsRules = bi.Add ∷ bi.Sub ∷ bi.Mul ∷ bi.And ∷ bi.ShiftLeft ∷ bi.ShiftRight ∷ []
+
 -- an integer in a, of which v is the low w bits
 abbrev Low : ℕ → ℕ → Interval → Type 0
 Low w v a = (z : ℤ) × (z ∈ a) × (v ≡ residue w z)
@@ -129,7 +140,7 @@ module _ (w : ℕ) (narrow : w ≤ 128) (s t : ScalarType) (x y v : ℕ) (p q a 
   left d = bits-read s w x p narrow d l f
 
   -- both operands of the result's type
-  same-low : both (sameType s (ty.Bits w)) (sameType t (ty.Bits w)) ≡ true
+  same-low : sameType s (ty.Bits w) && sameType t (ty.Bits w) ≡ true
       → ((pos x) ∈ p → (pos y) ∈ q → x < 2 ^ 128 → y < 2 ^ 128 → Low w v a) → Low w v a
   same-low d k =
       let c = tests _ _ d in
@@ -137,36 +148,30 @@ module _ (w : ℕ) (narrow : w ≤ 128) (s t : ScalarType) (x y v : ℕ) (p q a 
       let j = bits-read t w y q narrow (same-narrow t w (c .1)) m g in
       k (i .0) (j .0) (i .1) (j .1)
 
-  bits-low : (o : Binary) → storedTyped o s t (ty.Bits w) ≡ true → evaluateBinary o (ty.Bits w) x y ≡ some v → bitsRule o p q ≡ some a → Low w v a
-  unfolding evaluateBinary bitsRule residue shlInterval shrInterval
-  bits-low bi.Add d e r = same-low d (λ i j b c. low-of (pos x +ℤ pos y) _ (add-in p q a _ _ i j r) refl (some-is e))
-  bits-low bi.Sub d e r = same-low d (λ i j b c. low-of (pos x -ℤ pos y) _ (sub-in p q a _ _ i j r) (sym (wraps _-ℤ_ difference residue-sub 128 x y b c)) (some-is e))
-  bits-low bi.Mul d e r = same-low d (λ i j b c. low-of (pos x *ℤ pos y) _ (mul-in p q a _ _ i j r) refl (some-is e))
-  bits-low bi.And d e r = same-low d (λ i j b c. (pos (bitAnd x y), and-in p q a x y i j r, sym (some-is e)))
-  bits-low bi.Or d e r = absurd (none-some r)
-  bits-low bi.Xor d e r = absurd (none-some r)
-  bits-low bi.ShiftLeft d e r =
+  abbrev BitsLow : Binary → Type 0
+  BitsLow o = storedTyped o s t (ty.Bits w) ≡ true → binaryValue o (ty.Bits w) x y ≡ some v → bitsRule o p q ≡ some a → Low w v a
+
+  bits-low : (o : Binary) → BitsLow o
+  unfolding binaryValue bitsRule residue shlInterval shrInterval
+  bits-low o d e r =
+      of-any BitsLow bitsRules
+      (λ d e r. same-low d (λ i j b c. low-of (pos x +ℤ pos y) _ (add-in p q a _ _ i j r) refl (some-is e)))
+      (λ d e r. same-low d (λ i j b c. low-of (pos x -ℤ pos y) _ (sub-in p q a _ _ i j r) (sym (wraps _-ℤ_ difference residue-sub 128 x y b c)) (some-is e)))
+      (λ d e r. same-low d (λ i j b c. low-of (pos x *ℤ pos y) _ (mul-in p q a _ _ i j r) refl (some-is e)))
+      (λ d e r. same-low d (λ i j b c. (pos (bitAnd x y), and-in p q a x y i j r, sym (some-is e))))
+      (λ d e r.
       let i = left (tests (narrowType s w) (isNumber t) d .0) in
-      low-of (pos (x * 2 ^ y)) _ (shl-in p q a x y (i .0) (read-low t y q m g (not-negative p q _ a r .1)) r) (sym (shift-left x y)) (some-is e)
-  bits-low bi.ShiftRight d e r =
-      let i = left (same-narrow s w (tests (sameType s (ty.Bits w)) (isNumber t) d .0)) in (
-        pos (x / 2 ^ y),
-        shr-in p q a x y (ends .low) (i .0) (read-low t y q m g (not-negative p q _ a r .1)) r,
-        sym (some-is e) ∙ ap (λ (n : ℕ). n % 2 ^ w) (shift-right x y (i .1)),
-      )
-  bits-low bi.ArithmeticShiftRight d e r = absurd (none-some r)
-  bits-low bi.Equal d e r = absurd (none-some r)
-  bits-low bi.NotEqual d e r = absurd (none-some r)
-  bits-low bi.LessSigned d e r = absurd (none-some r)
-  bits-low bi.LessUnsigned d e r = absurd (none-some r)
-  bits-low bi.LessEqualSigned d e r = absurd (none-some r)
-  bits-low bi.LessEqualUnsigned d e r = absurd (none-some r)
-  bits-low bi.DivideSigned d e r = absurd (none-some r)
-  bits-low bi.RemainderSigned d e r = absurd (none-some r)
-  bits-low bi.DivideUnsigned d e r = absurd (none-some r)
-  bits-low bi.RemainderUnsigned d e r = absurd (none-some r)
+      low-of (pos (x * 2 ^ y)) _ (shl-in p q a x y (i .0) (read-low t y q m g (not-negative p q _ a r .1)) r) (sym (shift-left x y)) (some-is e))
+      (λ d e r.
+      let i = left (same-narrow s w (tests (sameType s (ty.Bits w)) (isNumber t) d .0)) in
+      (pos (x / 2 ^ y), shr-in p q a x y (ends .low) (i .0) (read-low t y q m g (not-negative p q _ a r .1)) r, sym (some-is e) ∙ ap (λ (n : ℕ). n % 2 ^ w) (shift-right x y (i .1))))
+      o (answering bitsRules (λ o. bitsRule o p q) refl o r) d e r
 
 -- ---- Integer
+
+-- the operators with a rule on Integer
+abbrev pub integerRules : List Binary
+integerRules = bi.Add ∷ bi.Sub ∷ bi.Mul ∷ bi.And ∷ bi.DivideSigned ∷ bi.RemainderSigned ∷ bi.DivideUnsigned ∷ bi.RemainderUnsigned ∷ []
 
 pub fitted-is : (z u : ℤ) → fitted z ≡ some u → (z ≡ u) × (mag u < 2 ^ 127)
 fitted-is z u e =
@@ -203,7 +208,7 @@ abbrev Integers : ℕ → ℕ → Interval → Interval → Type 0
 Integers x y p q = (x < 2 ^ 128) × (y < 2 ^ 128) × ((signed 128 x) ∈ p) × ((signed 128 y) ∈ q)
 
 module _ (s t : ScalarType) (x y v : ℕ) (p q a : Interval) (l : x < size s) (m : y < size t) (f : (integerOf s x) ∈ p) (g : (integerOf t y) ∈ q) where
-  integers : both (sameType s ty.Integer) (sameType t ty.Integer) ≡ true → Integers x y p q
+  integers : sameType s ty.Integer && sameType t ty.Integer ≡ true → Integers x y p q
   integers d =
       let c = tests _ _ d in
       let i : s ≡ ty.Integer = same-type s ty.Integer (c .0) in
@@ -211,7 +216,7 @@ module _ (s t : ScalarType) (x y v : ℕ) (p q a : Interval) (l : x < size s) (m
       (rw i at l, rw j at m, rw i at f, rw j at g)
 
   -- a rule of integers, and its operator's checked result
-  checked : both (sameType s ty.Integer) (sameType t ty.Integer) ≡ true → (h : ℤ → ℤ → Option ℤ) (k : ℤ → ℤ → ℤ)
+  checked : sameType s ty.Integer && sameType t ty.Integer ≡ true → (h : ℤ → ℤ → Option ℤ) (k : ℤ → ℤ → ℤ)
       → ((u : ℤ) → mag (signed 128 x) < 2 ^ 127 → h (signed 128 x) (signed 128 y) ≡ some u → (k (signed 128 x) (signed 128 y) ≡ u) × (mag u < 2 ^ 127))
       → ((signed 128 x) ∈ p → (signed 128 y) ∈ q → (k (signed 128 x) (signed 128 y)) ∈ a)
       → mapped (reduced ty.Integer) (mapped (residue 128) (h (signed 128 x) (signed 128 y))) ≡ some v → (signed 128 v) ∈ a
@@ -220,41 +225,35 @@ module _ (s t : ScalarType) (x y v : ℕ) (p q a : Interval) (l : x < size s) (m
       checked-in _ _ a v (λ u. is u (signed-mag 128 x (omega arith) l)) (i f g) (plain _ v e)
 
   -- a rule of naturals, for a result no greater than the left operand
-  natural : both (sameType s ty.Integer) (sameType t ty.Integer) ≡ true → (n : ℕ) → n ≤ x
+  natural : sameType s ty.Integer && sameType t ty.Integer ≡ true → (n : ℕ) → n ≤ x
       → (pos 0 ≤ℤ p .low) × (pos 0 ≤ℤ q .low) → ((pos x) ∈ p → (pos y) ∈ q → (pos n) ∈ a) → n ≡ v → (signed 128 v) ∈ a
   natural d n k h i e =
       let (l, m, f, g) = integers d in
       rw (← e, signed-low 128 n (lt-of-le-of-lt k (low-in 128 x p l f (h .0)))) (i (read-low ty.Integer x p l f (h .0)) (read-low ty.Integer y q m g (h .1)))
 
-  integer-in : (o : Binary) → storedTyped o s t ty.Integer ≡ true → evaluateBinary o ty.Integer x y ≡ some v → integerRule o p q ≡ some a
-      → (signed 128 v) ∈ a
-  unfolding evaluateBinary integerRule andInterval udivInterval uremInterval
-  integer-in bi.Add d e r = checked d (λ i j. fitted (i +ℤ j)) _+ℤ_ (λ u l. fitted-is _ u) (λ f g. add-in p q a _ _ f g r) e
-  integer-in bi.Sub d e r = checked d (λ i j. fitted (i -ℤ j)) _-ℤ_ (λ u l. fitted-is _ u) (λ f g. sub-in p q a _ _ f g r) e
-  integer-in bi.Mul d e r = checked d (λ i j. fitted (i *ℤ j)) _*ℤ_ (λ u l. fitted-is _ u) (λ f g. mul-in p q a _ _ f g r) e
-  integer-in bi.And d e r = natural d (bitAnd x y) (and-le-l x y) (not-negative p q _ a r) (λ f g. and-in p q a x y f g r) (some-is e)
-  integer-in bi.Or d e r = absurd (none-some r)
-  integer-in bi.Xor d e r = absurd (none-some r)
-  integer-in bi.ShiftLeft d e r = absurd (none-some r)
-  integer-in bi.ShiftRight d e r = absurd (none-some r)
-  integer-in bi.ArithmeticShiftRight d e r = absurd (none-some r)
-  integer-in bi.Equal d e r = absurd (none-some r)
-  integer-in bi.NotEqual d e r = absurd (none-some r)
-  integer-in bi.LessSigned d e r = absurd (none-some r)
-  integer-in bi.LessUnsigned d e r = absurd (none-some r)
-  integer-in bi.LessEqualSigned d e r = absurd (none-some r)
-  integer-in bi.LessEqualUnsigned d e r = absurd (none-some r)
-  integer-in bi.DivideSigned d e r = checked d quotient quotZ (λ u l. quotient-is _ _ u) (λ f g. quot-in p q a _ _ f g r) e
-  integer-in bi.RemainderSigned d e r = checked d remainder remZ (λ u l. remainder-is _ _ u l) (λ f g. rem-in p q a _ _ f g r) e
-  integer-in bi.DivideUnsigned d e r =
-      natural d (x / y) (div-le-self x y) (positive p q _ a r) (λ f g. udiv-in p q a x y f g r) (some-is (provided-is (ltb 0 y) _ (plain _ v e) .1))
-  integer-in bi.RemainderUnsigned d e r =
-      natural d (x % y) (mod-le x y) (positive p q _ a r) (λ f g. urem-in p q a x y f g r) (some-is (provided-is (ltb 0 y) _ (plain _ v e) .1))
+  abbrev IntegerIn : Binary → Type 0
+  IntegerIn o = storedTyped o s t ty.Integer ≡ true → binaryValue o ty.Integer x y ≡ some v → integerRule o p q ≡ some a → (signed 128 v) ∈ a
+
+  integer-in : (o : Binary) → IntegerIn o
+  unfolding binaryValue integerRule andInterval udivInterval uremInterval
+  integer-in o d e r =
+      of-any IntegerIn integerRules
+      (λ d e r. checked d (λ i j. fitted (i +ℤ j)) _+ℤ_ (λ u l. fitted-is _ u) (λ f g. add-in p q a _ _ f g r) e)
+      (λ d e r. checked d (λ i j. fitted (i -ℤ j)) _-ℤ_ (λ u l. fitted-is _ u) (λ f g. sub-in p q a _ _ f g r) e)
+      (λ d e r. checked d (λ i j. fitted (i *ℤ j)) _*ℤ_ (λ u l. fitted-is _ u) (λ f g. mul-in p q a _ _ f g r) e)
+      (λ d e r. natural d (bitAnd x y) (and-le-l x y) (not-negative p q _ a r) (λ f g. and-in p q a x y f g r) (some-is e))
+      (λ d e r. checked d quotient quotZ (λ u l. quotient-is _ _ u) (λ f g. quot-in p q a _ _ f g r) e)
+      (λ d e r. checked d remainder remZ (λ u l. remainder-is _ _ u l) (λ f g. rem-in p q a _ _ f g r) e)
+      (λ d e r.
+      natural d (x / y) (div-le-self x y) (positive p q _ a r) (λ f g. udiv-in p q a x y f g r) (some-is (provided-is (ltb 0 y) _ (plain _ v e) .1)))
+      (λ d e r.
+      natural d (x % y) (mod-le x y) (positive p q _ a r) (λ f g. urem-in p q a x y f g r) (some-is (provided-is (ltb 0 y) _ (plain _ v e) .1)))
+      o (answering integerRules (λ o. integerRule o p q) refl o r) d e r
 
 -- ---- the range of a new node
 
-pub binary-within : (o : Binary) (t ta tb : ScalarType) (ra rb r : Option Interval) (x y v : ℕ) → storedTyped o ta tb t ≡ true → typeWidth t ≤ 128
-    → x < size ta → y < size tb → Within ta x ra → Within tb y rb → ((a : Interval) → ra ≡ some a → Ends a) → evaluateBinary o t x y ≡ some v
+binary-within : (o : Binary) (t ta tb : ScalarType) (ra rb r : Option Interval) (x y v : ℕ) → storedTyped o ta tb t ≡ true → typeWidth t ≤ 128
+    → x < size ta → y < size tb → Within ta x ra → Within tb y rb → ((a : Interval) → ra ≡ some a → Ends a) → binaryValue o t x y ≡ some v
     → v < size t → binaryRange t o ra rb ≡ some r → Within t v r
 unfolding binaryRange
 binary-within o ty.Bool ta tb ra rb r x y v d h l m f g ends e k c = rw (← some-is c) (type-within ty.Bool v k)
@@ -287,9 +286,9 @@ negated-within x v (some p) r f e c =
     let (a, b, z) = mapped-is some (negInterval p) c in
     rw (← z) (λ n s. rw (← some-is s) (checked-in _ _ a v (fitted-is (negℤ (signed 128 x))) (neg-in p a (signed 128 x) (f p refl) b) e))
 
-pub unary-within : (o : Unary) (t s : ScalarType) (ra r : Option Interval) (x u v : ℕ) → unaryTyped o s t ≡ true
-    → Within s x ra → evaluateUnary o x ≡ some u → v ≡ reduced t u → v < size t → unaryRange t o ra ≡ some r → Within t v r
-unfolding unaryRange evaluateUnary
+unary-within : (o : Unary) (t s : ScalarType) (ra r : Option Interval) (x u v : ℕ) → unaryTyped o s t ≡ true
+    → Within s x ra → unaryValue o x ≡ some u → v ≡ reduced t u → v < size t → unaryRange t o ra ≡ some r → Within t v r
+unfolding unaryRange unaryValue
 unary-within un.BoolNot t s ra r x u v d f e q k c = rw (← some-is c) (type-within t v k)
 unary-within un.BitNot t s ra r x u v d f e q k c = rw (← some-is c) (type-within t v k)
 unary-within un.Negate t s ra r x u v d f e q k c =
@@ -304,3 +303,55 @@ unary-within (un.SignExtend w) (ty.Bits n) s ra r x u v d f e q k c = rw (← so
 unary-within (un.SignExtend w) ty.Integer s ra r x u v d f e q k c = rw (← some-is c) (λ a b. extended-in w x v a (q ∙ sym (some-is e)) b)
 unary-within (un.LeadingZeros w) t s ra r x u v d f e q k c = rw (← some-is c) (type-within t v k)
 unary-within (un.TrailingZeros w) t s ra r x u v d f e q k c = rw (← some-is c) (type-within t v k)
+
+-- ---- the range of any stored node
+
+-- an operand's value is of its type and lies in its range, whose ends are integers of 128 bits
+pub record Held (a : Ranged) (v : Option ℕ) : Type 0 where
+  pub small : (x : ℕ) → v ≡ some x → x < size (a .type)
+  pub within : (x : ℕ) → v ≡ some x → Within (a .type) x (a .range)
+  pub ends : (i : Interval) → a .range ≡ some i → Ends i
+
+-- an operation of type t on operands that are held; a Refine's source lies in its range as a value of t too
+abbrev pub HeldIn : (ℕ → Ranged) → (ℕ → Operand) → ScalarType → Op → Type 0
+HeldIn known look t (node.constant c) = c < size t
+HeldIn known look t (node.input i) = Unit {0}
+HeldIn known look t (node.refine i) = (x : ℕ) → look i .val ≡ some x → Within t x (known i .range)
+HeldIn known look t (node.effect i) = Unit {0}
+HeldIn known look t (node.slice i o w) = Unit {0}
+HeldIn known look t (node.concat i j w) = Unit {0}
+HeldIn known look t (node.unary u i) = (unaryTyped u (known i .type) t ≡ true) × Held (known i) (look i .val)
+HeldIn known look t (node.binary b i j) = (storedTyped b (known i .type) (known j .type) t ≡ true) × Held (known i) (look i .val) × Held (known j) (look j .val)
+
+module _ (ρ : Env) (t : ScalarType) (wide : typeWidth t ≤ 128) (known : ℕ → Ranged) (look : ℕ → Operand) (r : Option Interval) (v : ℕ) where
+  -- where the range is the type's
+  typed-within : (o : Op) → operationMeans ρ t o look ≡ some v → some (typeInterval t) ≡ some r → Within t v r
+  typed-within o e q = rw (← some-is q) (type-within t v (means-small ρ t o look v e))
+
+  pub stored-within : (o : Op) → HeldIn known look t o → operationMeans ρ t o look ≡ some v → storedRange t o known ≡ some r → Within t v r
+  stored-within (node.constant c) h e q =
+      let p : c ≡ v = some-is (sym (valued-same t c h) ∙ e) in
+      rw (← some-is q) (subst (λ (n : ℕ). Within t n (constantInterval t c)) p (constant-within t c wide h))
+  stored-within (node.input i) h e q = typed-within (node.input i) e q
+  stored-within (node.refine i) h e q =
+      let (x, xs, f) = then-is (look i .val) (ofType t) v e in
+      rw (← some-is q) (subst (λ (n : ℕ). Within t n (known i .range)) (sym (typed-is t x v f .0)) (h x xs))
+  stored-within (node.effect i) h e q = typed-within (node.effect i) e q
+  stored-within (node.slice i o w) h e q = typed-within (node.slice i o w) e q
+  stored-within (node.concat i j w) h e q = typed-within (node.concat i j w) e q
+  stored-within (node.unary u i) h e q =
+      let (x, xs, f) = then-is (look i .val) (λ x. andThen (unaryValue u x) (valued t)) v e in
+      let (y, ys, k) = then-is (unaryValue u x) (valued t) v f in
+      let (s, l) = typed-is t (reduced t y) v k in
+      unary-within u t (known i .type) (known i .range) r x y v (h .0) (h .1 .within x xs) ys s l q
+  stored-within (node.binary b i j) h e q =
+      let (x, xs, f) = then-is (look i .val) (λ x. andThen (look j .val) (λ y. andThen (binaryValue b t x y) (ofType t))) v e in
+      let (y, ys, k) = then-is (look j .val) (λ y. andThen (binaryValue b t x y) (ofType t)) v f in
+      let (z, zs, m) = then-is (binaryValue b t x y) (ofType t) v k in
+      let (s, l) = typed-is t z v m in
+      binary-within b t (known i .type) (known j .type) (known i .range) (known j .range) r x y v (h .0) wide (h .1 .small x xs) (h .2 .small y ys)
+      (h .1 .within x xs) (h .2 .within y ys) (h .1 .ends) (zs ∙ ap some (sym s)) l q
+
+-- a node of a graph is held
+pub held-at : {ρ : World} {g : List ℕ} → Inv ρ g → (n : ℕ) → n < countOf g → ρ .sure → Held (rangedAt g n) (value ρ g n)
+held-at i n l sure = record { small = value-small i n l; within = i .ranged n l sure; ends = i .ends n l }

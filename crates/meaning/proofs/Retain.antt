@@ -3,7 +3,7 @@ use mathlib.Core.Path.{_≡_, refl, sym, ap, _∙_, subst}
 use mathlib.Core.Bool.{true}
 use mathlib.Core.List.{List}
 use mathlib.Core.Logic.{_⊎_, inl, ⊎-elim}
-use mathlib.Core.Option.{Option, some}
+use mathlib.Core.Option.{some}
 use Prim.Native.Nat.{ℕ, zero, suc, _-_, _≤_, _<_}
 use native.Mathlib.Decide.{decLt}
 use native.Mathlib.Omega.{arith}
@@ -14,20 +14,23 @@ use Rattle.word.proofs.Integer.{lt-or-ge}
 use Rattle.range.specs.Interval.{Interval}
 use Rattle.range.specs.declared.ScalarType.{ScalarType}
 use Rattle.evaluate.specs.Operator.{unaryCode, binaryCode}
-use Rattle.graph.specs.Layout.{KEY, wordAt, countOf}
+use Rattle.graph.specs.Layout.{OPERATION, X, Y, Z, KEY, wordAt, countOf}
 use Rattle.graph.specs.Node as node
 use Rattle.graph.specs.Node.{Op, Parts, typeAt, rangeAt, operationOf, operationAt, nodeAt, aliasAt, opCode, opX, opY, opZ, wordsOf}
 use Rattle.graph.proofs.Grown.{Graph, graph-facts, start-le}
 use Rattle.graph.proofs.Nodes.{Holds}
 use Rattle.retain.specs.Retain.{isKept, hasFirst, hasSecond, keptBelow, newId, through, movedWords, retained, renamed}
-use Rattle.retain.proofs.Operands.{operator, Choice, first-below, second-below, first-kept, second-kept}
+use Rattle.retain.proofs.Operands.{KeepList, first-below, second-below, first-kept, second-kept}
 use Rattle.retain.proofs.Laws.{id-kept, kept-mono, kept-less, new-apart, retained-count, retained-word, retained-node}
 use Rattle.retain.proofs.Grown.{Origin, origin-of, retained-graph}
 use Rattle.native.specs.Typing.{unaryTyped, concatTyped}
-use Rattle.graph.proofs.Appended.{wordsFor, Exact, Keys, unary-code, binary-code}
-use Rattle.meaning.proofs.Worlds.{World, operationMeans, value}
+use Rattle.graph.proofs.Appended.{wordsFor, Exact, Keys}
+use Rattle.meaning.specs.Value.{Operand}
+use Rattle.meaning.proofs.Worlds.{World, operationMeans, operand, value}
 use Rattle.meaning.proofs.Values.{value-step}
 use Rattle.meaning.proofs.Invariant.{storedTyped, Typed, Refined, Ends, Within, Leads, Inv, inv-graph, inv-step}
+use Rattle.graph.proofs.Codes.{operator}
+use Rattle.evaluate.proofs.Codes.{unary-code, binary-code}
 
 -- ---- an operation with its operands renumbered
 
@@ -70,7 +73,7 @@ operands-of P (suc (suc (suc (suc (suc (suc c)))))) x y z a b =
     rw (le-ltb code 20 s) (a first, b second))
     (lt-or-ge code 20))
 
-means-renamed : (ρ : World) (t : ScalarType) (f : ℕ → ℕ) (look new : ℕ → Option ℕ) (o : Op) → Operands (λ i. new (f i) ≡ look i) o
+means-renamed : (ρ : World) (t : ScalarType) (f : ℕ → ℕ) (look new : ℕ → Operand) (o : Op) → Operands (λ i. new (f i) ≡ look i) o
     → operationMeans ρ t (renamed f o) new ≡ operationMeans ρ t o look
 means-renamed ρ t f look new (node.constant c) e = refl
 means-renamed ρ t f look new (node.input i) e = refl
@@ -193,7 +196,7 @@ origin-is keep c n l e (no h) = absurd (h (kept-less keep n c l e))
 
 -- ---- what is left
 
-module _ (ρ : World) {g keep mapping : List ℕ} (i : Inv ρ g) (d : Choice g keep mapping) where
+module _ (ρ : World) {g keep mapping : List ℕ} (i : Inv ρ g) (d : KeepList g keep mapping) where
   f : Graph g
   f = inv-graph i
 
@@ -209,14 +212,14 @@ module _ (ρ : World) {g keep mapping : List ℕ} (i : Inv ρ g) (d : Choice g k
 
     operands : Operands (λ j. (j < n) × (isKept keep j ≡ true)) (operationAt g n)
     operands =
-        operands-of (λ j. (j < n) × (isKept keep j ≡ true)) (wordAt g n 7) (wordAt g n 8) (wordAt g n 9) (wordAt g n 10)
+        operands-of (λ j. (j < n) × (isKept keep j ≡ true)) (wordAt g n OPERATION) (wordAt g n X) (wordAt g n Y) (wordAt g n Z)
         (λ a. (first-below f n l a, first-kept d n l e a)) (λ a. (second-below f n l a, second-kept d n l e a))
 
     step : value ρ (retained g keep) (keptBelow keep n)
-        ≡ operationMeans ρ (typeAt g n) (renamed (newId keep) (operationAt g n)) (value ρ (retained g keep))
+        ≡ operationMeans ρ (typeAt g n) (renamed (newId keep) (operationAt g n)) (operand ρ (retained g keep))
     step =
         value-step (ρ .env) (retained g keep) (keptBelow keep n) (start-le left (keptBelow keep n) kept-here)
-        ∙ (λ k. operationMeans ρ (at .type k) (at .operation k) (value ρ (retained g keep)))
+        ∙ (λ k. operationMeans ρ (at .type k) (at .operation k) (operand ρ (retained g keep)))
 
   value-below : (m n : ℕ) → n < m → (l : n < countOf g) → (e : isKept keep n ≡ true) → value ρ (retained g keep) (keptBelow keep n) ≡ value ρ g n
   value-below zero n q l e = absurd (omega arith)
@@ -226,9 +229,9 @@ module _ (ρ : World) {g keep mapping : List ℕ} (i : Inv ρ g) (d : Choice g k
           → value ρ (retained g keep) (keptBelow keep n) ≡ value ρ g n
       go ih =
           step n l e
-          ∙ means-renamed ρ (typeAt g n) (newId keep) (value ρ g) (value ρ (retained g keep)) (operationAt g n)
-          (operands-map (λ j. (j < n) × (isKept keep j ≡ true)) (λ j. value ρ (retained g keep) (newId keep j) ≡ value ρ g j)
-          (λ j p. ap (value ρ (retained g keep)) (id-kept keep j (p .1)) ∙ ih j (p .0) (p .1)) (operationAt g n) (operands n l e))
+          ∙ means-renamed ρ (typeAt g n) (newId keep) (operand ρ g) (operand ρ (retained g keep)) (operationAt g n)
+          (operands-map (λ j. (j < n) × (isKept keep j ≡ true)) (λ j. operand ρ (retained g keep) (newId keep j) ≡ operand ρ g j)
+          (λ j p. ap (operand ρ (retained g keep)) (id-kept keep j (p .1)) ∙ (λ k. record { type = at j (omega (arith, p .0)) (p .1) .type k; val = ih j (p .0) (p .1) k })) (operationAt g n) (operands n l e))
           ∙ sym (inv-step i n l)
 
   module _ (n : ℕ) (l : n < countOf g) (e : isKept keep n ≡ true) where
@@ -236,7 +239,7 @@ module _ (ρ : World) {g keep mapping : List ℕ} (i : Inv ρ g) (d : Choice g k
     pub retain-value : value ρ (retained g keep) (keptBelow keep n) ≡ value ρ g n
     retain-value = value-below (suc n) n (omega arith) l e
 
-    pub retain-type : typeAt (retained g keep) (keptBelow keep n) ≡ typeAt g n
+    retain-type : typeAt (retained g keep) (keptBelow keep n) ≡ typeAt g n
     retain-type = at n l e .type
 
   -- what holds of every kept node holds of every node that is left

@@ -1,6 +1,6 @@
 -- Shifts in Bits by a constant: what they come to, and that binary's plans for them claim what is asked. Assumes nothing.
 use mathlib.Core.Path.{_≡_, refl, sym, ap, _∙_, subst}
-use mathlib.Core.Bool.{Bool, true, cond}
+use mathlib.Core.Bool.{Bool, true, cond, _&&_, _||_}
 use mathlib.Core.List.{List}
 use mathlib.Core.Logic.{⊎-elim}
 use mathlib.Core.Option.{Option, none, some}
@@ -11,12 +11,11 @@ use native.Mathlib.Omega.{arith}
 use borrow.Author.Tests.{ltb-true, leb-true, leb-false, le-leb}
 use lib.Dec.{ltb, leb}
 use lib.Pow.{pow-pos, pow-mono, pow-add}
-use Rattle.range.specs.Interval.{both, one}
 use Rattle.range.specs.declared.ScalarType.{ScalarType}
 use Rattle.range.specs.declared.ScalarType.the-variants as ty
 use Rattle.range.proofs.Sound.{tests, either}
 use Rattle.range.proofs.Answers.{none-some, some-is, provided-is}
-use Rattle.evaluate.specs.Evaluate.{evaluateBinary}
+use Rattle.evaluate.specs.Evaluate.{binaryValue}
 use Rattle.evaluate.specs.Operator.{typeWidth}
 use Rattle.evaluate.specs.declared.Binary.{Binary}
 use Rattle.evaluate.specs.declared.Binary.the-variants as bi
@@ -30,11 +29,11 @@ use Rattle.graph.specs.Layout.{LIMIT, countOf}
 use Rattle.graph.specs.Node.{typeAt, rangeAt}
 use Rattle.graph.specs.Insert.{literal}
 use Rattle.fold.specs.Operator.{shifts}
-use Rattle.fold.specs.Shape.{sameType, sameBinary, narrowType, fits, isAny, Chain, chainAt, refinedAt, down, origin}
+use Rattle.fold.specs.Shape.{sameType, sameBinary, narrowType, fits, isAny, ByConstant, byConstantAt, refinedAt, down, origin}
 use Rattle.native.specs.Typing.{isNumber}
 use Rattle.plan.specs.Plan as plan
 use Rattle.plan.specs.Plan.{Plan}
-use Rattle.plan_binary.specs.Binary.{isShiftedOut, backShift, shiftTwice, shiftBy, shiftPlan}
+use Rattle.plan_binary.specs.Binary.{isShiftedOut, backShift, shiftOfShift, shiftBy, shiftPlan}
 use Rattle.meaning.specs.Value.{size, ofType, valued, andThen, binaryMeans, sliceMeans}
 use Rattle.meaning.proofs.Worlds.{World, value}
 use Rattle.meaning.proofs.Constants.{low-valued}
@@ -43,7 +42,7 @@ use Rattle.meaning.proofs.Invariant.{shiftable, storedTyped, Inv}
 use Rattle.meaning.proofs.Plans.{Covers, Number, Claim, bits-number}
 use Rattle.meaning.proofs.Views.{same-type, value-small, value-pattern}
 use Rattle.meaning.proofs.Modular.{refine-value}
-use Rattle.meaning.proofs.Field.{literal-value, linked, chain-here, chain-typed, chain-means}
+use Rattle.meaning.proofs.Field.{literal-value, linked, by-constant-here, by-constant-typed, by-constant-means}
 
 -- ---- the start of a chain of Refines
 
@@ -65,22 +64,22 @@ module _ {ρ : World} {g : List ℕ} (i : Inv ρ g) where
 -- ---- what shifts give; from 128 bits on, as from w on, nothing is left
 
 module _ (w : ℕ) where
-  pub left-value : w ≤ 128 → (x c : ℕ) → evaluateBinary bi.ShiftLeft (ty.Bits w) x c ≡ some (x * 2 ^ c % 2 ^ w)
-  unfolding evaluateBinary
+  left-value : w ≤ 128 → (x c : ℕ) → binaryValue bi.ShiftLeft (ty.Bits w) x c ≡ some (x * 2 ^ c % 2 ^ w)
+  unfolding binaryValue
   left-value wide x c = ap (λ (n : ℕ). some (n % 2 ^ w)) (shift-left x c) ∙ ap some (narrow (x * 2 ^ c) 128 w wide)
 
-  pub right-value : (x c : ℕ) → x < 2 ^ 128 → evaluateBinary bi.ShiftRight (ty.Bits w) x c ≡ some (x / 2 ^ c % 2 ^ w)
-  unfolding evaluateBinary
+  right-value : (x c : ℕ) → x < 2 ^ 128 → binaryValue bi.ShiftRight (ty.Bits w) x c ≡ some (x / 2 ^ c % 2 ^ w)
+  unfolding binaryValue
   right-value x c l = ap (λ (n : ℕ). some (n % 2 ^ w)) (shift-right x c l)
 
-  low-means : (o : Binary) (x c r : ℕ) → evaluateBinary o (ty.Bits w) x c ≡ some (r % 2 ^ w)
+  low-means : (o : Binary) (x c r : ℕ) → binaryValue o (ty.Bits w) x c ≡ some (r % 2 ^ w)
       → binaryMeans (ty.Bits w) o (some x) (some c) ≡ some (r % 2 ^ w)
   low-means o x c r e = ap (λ (a : Option ℕ). andThen a (ofType (ty.Bits w))) e ∙ low-valued w r
 
-  pub left-means : w ≤ 128 → (x c : ℕ) → binaryMeans (ty.Bits w) bi.ShiftLeft (some x) (some c) ≡ some (x * 2 ^ c % 2 ^ w)
+  left-means : w ≤ 128 → (x c : ℕ) → binaryMeans (ty.Bits w) bi.ShiftLeft (some x) (some c) ≡ some (x * 2 ^ c % 2 ^ w)
   left-means wide x c = low-means bi.ShiftLeft x c (x * 2 ^ c) (left-value wide x c)
 
-  pub right-means : (x c : ℕ) → x < 2 ^ 128 → binaryMeans (ty.Bits w) bi.ShiftRight (some x) (some c) ≡ some (x / 2 ^ c % 2 ^ w)
+  right-means : (x c : ℕ) → x < 2 ^ 128 → binaryMeans (ty.Bits w) bi.ShiftRight (some x) (some c) ≡ some (x / 2 ^ c % 2 ^ w)
   right-means x c l = low-means bi.ShiftRight x c (x / 2 ^ c) (right-value x c l)
 
   -- an operation by c that has a value
@@ -118,23 +117,23 @@ out-wide o w c b wide e =
     ⊎-elim (λ q. let p = leb-true 128 c q in omega arith) (λ q. leb-true w c (tests (leb w c) _ q .0)) (either (leb 128 c) _ e)
 
 -- a node that is its base shifted left, in Bits(w)
-record Shifted (ρ : World) (g : List ℕ) (w n : ℕ) (c : Chain) : Type 0 where
+record Shifted (ρ : World) (g : List ℕ) (w n : ℕ) (c : ByConstant) : Type 0 where
   here : c .base < countOf g
   typed : shiftable (typeAt g (c .base)) (ty.Bits w) ≡ true
   means : ρ .sure → (v : ℕ) → value ρ g n ≡ some v → (x : ℕ) × (value ρ g (c .base) ≡ some x) × (v ≡ x * 2 ^ (c .value) % 2 ^ w)
 
 module _ {ρ : World} {g : List ℕ} (i : Inv ρ g) (w : ℕ) (wide : w ≤ 128) where
-  chain-shifted : (n : ℕ) → n < countOf g → typeAt g n ≡ ty.Bits w → (c : Chain) → chainAt g n ≡ some c → c .op ≡ bi.ShiftLeft → Shifted ρ g w n c
-  chain-shifted n l t c e s =
+  by-constant-shifted : (n : ℕ) → n < countOf g → typeAt g n ≡ ty.Bits w → (c : ByConstant) → byConstantAt g n ≡ some c → c .op ≡ bi.ShiftLeft → Shifted ρ g w n c
+  by-constant-shifted n l t c e s =
       let f = linked g n c e in
       let k : storedTyped bi.ShiftLeft (typeAt g (c .base)) (typeAt g (f .constant)) (ty.Bits w) ≡ true =
-      (λ z. storedTyped (sym s z) (typeAt g (c .base)) (typeAt g (f .constant)) (sym t z)) ∙ chain-typed i n l c f in
+      (λ z. storedTyped (sym s z) (typeAt g (c .base)) (typeAt g (f .constant)) (sym t z)) ∙ by-constant-typed i n l c f in
       record {
-        here = chain-here i n l c f .0;
+        here = by-constant-here i n l c f .0;
         typed = tests (shiftable (typeAt g (c .base)) (ty.Bits w)) (isNumber (typeAt g (f .constant))) k .0;
         means = λ sure v m.
-            let d = chain-means i n l c f v m in
-            (d .0, d .1, some-is (sym (d .2) ∙ (λ z. evaluateBinary (s z) (t z) (d .0) (c .value)) ∙ left-value w wide (d .0) (c .value)));
+            let d = by-constant-means i n l c f v m in
+            (d .0, d .1, some-is (sym (d .2) ∙ (λ z. binaryValue (s z) (t z) (d .0) (c .value)) ∙ left-value w wide (d .0) (c .value)));
       }
 
   module _ (left right count : ℕ) (ll : left < countOf g) (known : value ρ g right ≡ some count) where
@@ -142,7 +141,7 @@ module _ {ρ : World} {g : List ℕ} (i : Inv ρ g) (w : ℕ) (wide : w ≤ 128)
     Asked o = Claim ρ g (ty.Bits w) (binaryMeans (ty.Bits w) o (value ρ g left) (value ρ g right))
 
     -- what a shift of a shift comes to
-    abbrev again : Binary → Chain → Plan
+    abbrev again : Binary → ByConstant → Plan
     again o c = cond (sameBinary o bi.ShiftRight) (backShift w count c) (plan.constantBinary ty.Integer (c .value + count) (ty.Bits w) o (c .base))
 
     module _ (o : Binary) (f : ℕ → ℕ) (gives : (x : ℕ) → value ρ g left ≡ some x → binaryMeans (ty.Bits w) o (some x) (some count) ≡ some (f x)) where
@@ -158,20 +157,20 @@ module _ {ρ : World} {g : List ℕ} (i : Inv ρ g) (w : ℕ) (wide : w ≤ 128)
       )
 
       by-claim : (w ≤ count → (x : ℕ) → value ρ g left ≡ some x → f x ≡ 0)
-          → ((c : Chain) → c .value < w → count < w → Shifted ρ g w left c → Asked o (again o c)) → (p : Plan) → shiftBy g o w left count ≡ some p → Asked o p
+          → ((c : ByConstant) → c .value < w → count < w → Shifted ρ g w left c → Asked o (again o c)) → (p : Plan) → shiftBy g o w left count ≡ some p → Asked o p
       by-claim out twice =
-          by-test (Each (Asked o)) (isShiftedOut o w count (one (narrowType (typeAt g left) w) (fits w (rangeAt g left))))
+          by-test (Each (Asked o)) (isShiftedOut o w count (narrowType (typeAt g left) w || fits w (rangeAt g left)))
           (λ q. each-some (Asked o) _ (out-claim (out (out-wide o w count _ wide q))))
           (λ q p e.
           let a = provided-is (sameType (typeAt g (origin g left)) (ty.Bits w)) _ e in
-          let b = given-is (chainAt g (origin g left)) (shiftTwice o w count) (a .1) in
-          let c : Chain = b .0 in
-          let d = provided-is (both (ltb (c .value) w) (both (ltb count w) (sameBinary (c .op) bi.ShiftLeft))) (some (again o c)) (b .2) in
-          let x = tests (ltb (c .value) w) (both (ltb count w) (sameBinary (c .op) bi.ShiftLeft)) (d .0) in
+          let b = given-is (byConstantAt g (origin g left)) (shiftOfShift o w count) (a .1) in
+          let c : ByConstant = b .0 in
+          let d = provided-is (ltb (c .value) w && (ltb count w && sameBinary (c .op) bi.ShiftLeft)) (some (again o c)) (b .2) in
+          let x = tests (ltb (c .value) w) (ltb count w && sameBinary (c .op) bi.ShiftLeft) (d .0) in
           let y = tests (ltb count w) (sameBinary (c .op) bi.ShiftLeft) (x .1) in
           let v = origin-value i left ll in
           let s =
-          chain-shifted (origin g left) (v .0) (same-type (typeAt g (origin g left)) (ty.Bits w) (a .0)) c (b .1) (binary-is (c .op) bi.ShiftLeft (y .1)) in
+          by-constant-shifted (origin g left) (v .0) (same-type (typeAt g (origin g left)) (ty.Bits w) (a .0)) c (b .1) (binary-is (c .op) bi.ShiftLeft (y .1)) in
           subst (Asked o) (some-is (d .1))
           (twice c (ltb-true (c .value) w (x .0)) (ltb-true count w (y .0))
           (record { here = s .here; typed = s .typed; means = λ sure z m. s .means sure z (sym (v .1 sure) ∙ m) })))
@@ -181,7 +180,7 @@ module _ {ρ : World} {g : List ℕ} (i : Inv ρ g) (w : ℕ) (wide : w ≤ 128)
     left-gives : (x : ℕ) → value ρ g left ≡ some x → binaryMeans (ty.Bits w) bi.ShiftLeft (some x) (some count) ≡ some (x * 2 ^ count % 2 ^ w)
     left-gives x e = left-means w wide x count
 
-    left-again : (c : Chain) → c .value < w → count < w → Shifted ρ g w left c → Asked bi.ShiftLeft (again bi.ShiftLeft c)
+    left-again : (c : ByConstant) → c .value < w → count < w → Shifted ρ g w left c → Asked bi.ShiftLeft (again bi.ShiftLeft c)
     left-again c lc l s = (
       count-number (c .value + count) (omega arith),
       refl,
@@ -207,7 +206,7 @@ module _ {ρ : World} {g : List ℕ} (i : Inv ρ g) (w : ℕ) (wide : w ≤ 128)
         → Covers (binaryMeans (ty.Bits w) bi.ShiftRight (value ρ g left) (value ρ g right)) d
     right-covers = covers bi.ShiftRight (λ x. x / 2 ^ count % 2 ^ w) right-gives
 
-    right-again : (c : Chain) → c .value < w → count < w → Shifted ρ g w left c → Asked bi.ShiftRight (again bi.ShiftRight c)
+    right-again : (c : ByConstant) → c .value < w → count < w → Shifted ρ g w left c → Asked bi.ShiftRight (again bi.ShiftRight c)
     right-again c lc l s =
         by-test (Asked bi.ShiftRight) (leb (c .value) count)
         (λ q. (
@@ -262,11 +261,6 @@ module _ {ρ : World} {g : List ℕ} (i : Inv ρ g) (left right : ℕ) (ll : lef
       (λ (o : Binary).
       storedTyped o (typeAt g left) (typeAt g right) (ty.Bits w) ≡ true → shiftBy g o w left (b .0) ≡ some p
       → Claim ρ g (ty.Bits w) (binaryMeans (ty.Bits w) o (value ρ g left) (value ρ g right)) p)
-      shifts (
-        λ s r. left-claim i w wide left right (b .0) ll v p r,
-        (
-          λ s r. right-claim i w wide left right (b .0) ll v (same-type (typeAt g left) (ty.Bits w) (tests (sameType (typeAt g left) (ty.Bits w)) _ s .0)) p r,
-          tt,
-        ),
-      )
+      shifts (λ s r. left-claim i w wide left right (b .0) ll v p r)
+      (λ s r. right-claim i w wide left right (b .0) ll v (same-type (typeAt g left) (ty.Bits w) (tests (sameType (typeAt g left) (ty.Bits w)) _ s .0)) p r)
       o (a .0) typed (b .2)

@@ -1,6 +1,6 @@
 -- A slice of a node: slice's plans claim what is asked of them. Assumes nothing.
 use mathlib.Core.Path.{_≡_, refl, sym, ap, _∙_, subst}
-use mathlib.Core.Bool.{Bool, true, false, false≢true}
+use mathlib.Core.Bool.{Bool, true, false, false≢true, _&&_, _||_}
 use mathlib.Core.List.{List}
 use mathlib.Core.Logic.{⊎-elim}
 use mathlib.Core.Option.{Option, none, some}
@@ -14,9 +14,10 @@ use lib.IntN.{ℤ, pos, negsuc}
 use lib.Pow.{pow-add, pow-pos, pow-mono, shr-mono}
 use lib.Signed.{mag, _≤ℤ_}
 use Rattle.word.specs.Value.{residue}
+use Rattle.word.specs.Option.{given}
 use Rattle.word.proofs.Integer.{residue-pos}
 use Rattle.word.proofs.Shifts.{right-all}
-use Rattle.range.specs.Interval.{Interval, both, one, nonnegative, typeInterval, insideBits}
+use Rattle.range.specs.Interval.{Interval, nonnegative, typeInterval, insideBits}
 use Rattle.range.specs.declared.ScalarType.{ScalarType}
 use Rattle.range.specs.declared.ScalarType.the-variants as ty
 use Rattle.range.proofs.Order.{le-parts}
@@ -28,7 +29,7 @@ use Rattle.graph.specs.Layout.{countOf}
 use Rattle.graph.specs.Node as node
 use Rattle.graph.specs.Node.{Op, typeAt, rangeAt, operationAt}
 use Rattle.graph.specs.Insert.{literal}
-use Rattle.fold.specs.Shape.{given, sameType}
+use Rattle.fold.specs.Shape.{sameType}
 use Rattle.bitfield.specs.Bitfield.{above}
 use Rattle.plan.specs.Plan as plan
 use Rattle.plan.specs.Plan.{Plan}
@@ -36,7 +37,7 @@ use Rattle.plan_slice.specs.Slice.{lowered, boundedPlan, newSlice, sliceConcat,
 use Rattle.build.specs.Rest.{restPlan}
 use Rattle.bits.proofs.Slices.{slice-slice, slice-high, slice-low, slice-split}
 use Rattle.meaning.specs.Value.{size, valued, andThen, sliceMeans, concatMeans}
-use Rattle.meaning.proofs.Worlds.{World, value}
+use Rattle.meaning.proofs.Worlds.{World, operand, value}
 use Rattle.meaning.proofs.Values.{typed-is, then-is, means-small}
 use Rattle.meaning.proofs.Answers.{by-test, by-provided, by-given}
 use Rattle.meaning.proofs.Invariant.{Inv, inv-width, ext-here, ext-value, Kept}
@@ -72,7 +73,7 @@ parts-small x y v w h a b =
 
 -- ---- tests
 
-neither : (s t : Bool) → one s t ≡ false → s ≡ false
+neither : (s t : Bool) → s || t ≡ false → s ≡ false
 neither true t e = e
 neither false t e = refl
 
@@ -131,7 +132,7 @@ module _ {ρ : World} {g : List ℕ} (i : Inv ρ g) (n o w : ℕ) (l : n < count
       by-provided Decided (nonnegative a)
       (λ up.
       by-test Decided (eqb (lowered (residue 128 (a .high)) o) 0) (λ z. number-claim 0 (none-kept a e up z))
-      (λ z. by-provided Decided (both (eqb o 0) (insideBits w a)) (λ f. ((wide, l), refl, λ sure. start-covers (eqb-true o 0 (tests (eqb o 0) _ f .0)))) k)) k
+      (λ z. by-provided Decided (eqb o 0 && insideBits w a) (λ f. ((wide, l), refl, λ sure. start-covers (eqb-true o 0 (tests (eqb o 0) _ f .0)))) k)) k
     where
       Decided : Option Plan → Type 0
       Decided p = Asked (given p (λ q. q) d)
@@ -157,7 +158,7 @@ module _ {ρ : World} {g : List ℕ} (i : Inv ρ g) (n o w : ℕ) (l : n < count
       typed = refl;
       refined = λ sure. tt;
       ends = type-ends (ty.Bits w);
-      within = λ sure v q. type-within (ty.Bits w) v (means-small (ρ .env) (ty.Bits w) (node.slice n o w) (value ρ g) v q);
+      within = λ sure v q. type-within (ty.Bits w) v (means-small (ρ .env) (ty.Bits w) (node.slice n o w) (operand ρ g) v q);
     },
     λ sure v q. q,
   )
@@ -248,12 +249,12 @@ module _ {ρ : World} {g : List ℕ} (i : Inv ρ g) (n o w : ℕ) (l : n < count
 
   part-claim : Asked (slicePart g n o w)
   part-claim =
-      by-test Asked (one (leb 128 o) (above (typeAt g n) o))
+      by-test Asked (leb 128 o || above (typeAt g n) o)
       (λ e. number-claim 0 (λ sure x m.
       ⊎-elim (λ f. sym (right-all 128 o x (value-pattern i n l x m) (leb-true 128 o f)))
       (λ f. above-none (typeAt g n) x o (value-small i n l x m) f) (either (leb 128 o) (above (typeAt g n) o) e)))
       (λ e.
-      by-test Asked (both (eqb o 0) (sameType (typeAt g n) (ty.Bits w)))
+      by-test Asked (eqb o 0 && sameType (typeAt g n) (ty.Bits w))
       (λ f.
       let c = tests (eqb o 0) (sameType (typeAt g n) (ty.Bits w)) f in
       let s : typeAt g n ≡ ty.Bits w = same-type (typeAt g n) (ty.Bits w) (c .1) in
@@ -267,11 +268,11 @@ module _ {ρ : World} {g : List ℕ} (i : Inv ρ g) (n o w : ℕ) (l : n < count
       })
       (λ f. operation-claim (leb-false 128 o (neither (leb 128 o) (above (typeAt g n) o) e)) (operationAt g n) refl))
 
-  pub slice-plan-claim : Claim ρ g (ty.Bits w) (sliceMeans (ty.Bits w) o (value ρ g n)) (slicePlan g n o w)
+  slice-plan-claim : Claim ρ g (ty.Bits w) (sliceMeans (ty.Bits w) o (value ρ g n)) (slicePlan g n o w)
   unfolding slicePlan
   slice-plan-claim = bounded-claim (rangeAt g n) refl (slicePart g n o w) part-claim
 
-  pub slice-constant-claim : (c : ℕ) → literal g n ≡ some c → Claim ρ g (ty.Bits w) (sliceMeans (ty.Bits w) o (value ρ g n)) (plan.constant (ty.Bits w) (lowered c o))
+  slice-constant-claim : (c : ℕ) → literal g n ≡ some c → Claim ρ g (ty.Bits w) (sliceMeans (ty.Bits w) o (value ρ g n)) (plan.constant (ty.Bits w) (lowered c o))
   slice-constant-claim c e =
       let m : value ρ g n ≡ some c = literal-value ρ g i n c l e in
       number-claim (lowered c o)

@@ -13,7 +13,7 @@ use Rattle.graph.specs.Insert.{Reply, id, nothing, room, units, inserted}
 use Rattle.build.specs.Build.{Call, identity, unary, modular, binary, slice, concat, Out, out, Prog, give, add, call, tries, step, onId, onOut, onNone, exec, run, build}
 use Rattle.native.specs.Typing.{unaryTyped, concatTyped}
 use Rattle.meaning.specs.Value.{valued, andThen, unaryMeans, binaryMeans, sliceMeans, concatMeans}
-use Rattle.meaning.proofs.Worlds.{World, operationMeans, value}
+use Rattle.meaning.proofs.Worlds.{World, operationMeans, operand, value}
 use Rattle.meaning.proofs.Invariant.{storedTyped, Inv, Storable, Kept, kept-refl, kept-trans, Found, Answered, insert-good}
 
 -- ---- what a builder's call is to mean
@@ -67,7 +67,7 @@ module _ (ρ : World) (t : ScalarType) (w : Option ℕ) where
   abbrev pub Good : Prog → List ℕ → Type 0
   Good (give a) g = Gives a g
   Good (add s r o k) g =
-      Storable ρ g s r o × ((n : ℕ) (h : List ℕ) → Kept ρ g h → Found ρ s (operationMeans ρ s o (value ρ g)) n h → Good (k n) h)
+      Storable ρ g s r o × ((n : ℕ) (h : List ℕ) → Kept ρ g h → Found ρ s (operationMeans ρ s o (operand ρ g)) n h → Good (k n) h)
   Good (call c k) g = Callable g c × ((n : ℕ) (h : List ℕ) → Kept ρ g h → Found ρ (typeOf c) (meaning (value ρ g) c) n h → Good (k n) h)
   Good (tries p k) g = Good p g × ((h : List ℕ) → Kept ρ g h → Good (k h) h)
 
@@ -106,7 +106,7 @@ module _ (ρ : World) (t : ScalarType) (w : Option ℕ) where
     pub exec-ends : (p : Prog) (u : ℕ) (g : List ℕ) → Inv ρ g → Good p g → Ends ρ g t w (exec f p u g)
     exec-ends (give a) u g i d = gives-ends a u g i d
     exec-ends (add t′ r o k) u g i d =
-        on-id g (inserted g t′ r o .words) t′ (operationMeans ρ t′ o (value ρ g)) (inserted g t′ r o .answer) u (λ n v h. exec f (k n) v h)
+        on-id g (inserted g t′ r o .words) t′ (operationMeans ρ t′ o (operand ρ g)) (inserted g t′ r o .answer) u (λ n v h. exec f (k n) v h)
         (insert-good ρ g t′ r o i (d .0))
         (λ n v a b. since g (inserted g t′ r o .words) (exec f (k n) v (inserted g t′ r o .words)) a (exec-ends (k n) v (inserted g t′ r o .words) (a .inv) (d .1 n (inserted g t′ r o .words) a b)))
     exec-ends (call c k) u g i d =

@@ -1,7 +1,7 @@
 -- Derived ranges have ends of 128 bits and pass question 1; results are of their types; unary's plans claim what is asked of them. Assumes nothing.
 use mathlib.Core.Path.{_≡_, refl, sym, ap, _∙_, subst}
-use mathlib.Core.Bool.{Bool, true, false, not, false≢true}
-use mathlib.Core.List.{List}
+use mathlib.Core.Bool.{Bool, true, false, not, false≢true, _&&_}
+use mathlib.Core.List.{List, _∷_}
 use mathlib.Core.Option.{Option, none, some}
 use Prim.Native.Nat.{ℕ, _+_, _-_, _*_, _%_, _^_, _≤_, _<_}
 use native.Mathlib.Nat.{lt-of-lt-of-le, lt-of-le-of-lt, mod-lt, mod-le, div-le-self}
@@ -13,16 +13,17 @@ use lib.Dec.{ltb, leb, eqb, lit<}
 use lib.IntN.{ℤ, pos, natAbs, negℤ, _-ℤ_}
 use lib.Pow.{pow-pos, pow-mono}
 use lib.Signed.{mag, leZ, ltZ, _≤ℤ_, mag-shr}
-use Rattle.word.specs.Value.{residue, signed, fitted, only, quotient, minZ, maxZ}
+use Rattle.word.specs.Value.{residue, signed, fitted, quotient, minZ, maxZ}
+use Rattle.word.specs.Option.{only, fromBool, mapped, orZero, bothGiven, orElse}
 use Rattle.word.proofs.Integer.{residue-lt, residue-pos, signed-low, half-twice}
-use Rattle.range.specs.Interval.{Interval, both, nonnegative, typeInterval, filtered, signExtended, between, addInterval, subInterval, negInterval, cornersOf, mulInterval, divisible, quotInterval, cut, cutTo, remInterval, andInterval, udivInterval, atMost, uremInterval, clamped, shifted, shlInterval, shrInterval}
+use Rattle.range.specs.Interval.{Interval, nonnegative, typeInterval, filtered, signExtended, between, addInterval, subInterval, negInterval, cornersOf, mulInterval, divisible, quotInterval, cut, cutTo, remInterval, andInterval, udivInterval, atMost, uremInterval, clamped, shifted, shlInterval, shrInterval}
 use Rattle.range.specs.declared.ScalarType.{ScalarType}
 use Rattle.range.specs.declared.ScalarType.the-variants as ty
 use Rattle.range.proofs.Order.{orders, extremes, le-min, max-le, between-small}
 use Rattle.range.proofs.Sound.{tests}
 use Rattle.range.proofs.Answers.{none-some, some-is, provided-is}
 use Rattle.range.proofs.Valid.{Valid, neg-full, add-full, sub-full, mul-full, quot-full, rem-full, and-full, udiv-full, urem-full, shl-full, shr-full, extended-full, integer-valid, filtered-valid, type-valid}
-use Rattle.evaluate.specs.Evaluate.{mapped, reduced, orZero, toU32, extended, signExtended as extend, leadingIn, trailingIn, signedly, shiftedLeft, shiftedRight, arithmeticShift, binaryValue, evaluateUnary, evaluateBinary}
+use Rattle.evaluate.specs.Evaluate.{reduced, toU32, extended, signExtended as extend, leadingIn, trailingIn, signedly, shiftedLeft, shiftedRight, arithmeticShift, unreduced, unaryValue, binaryValue}
 use Rattle.evaluate.specs.I128 as i128
 use Rattle.evaluate.specs.Operator.{typeWidth, unaryWidth}
 use Rattle.evaluate.specs.declared.Unary.{Unary}
@@ -33,21 +34,22 @@ use Rattle.evaluate.proofs.Fields.{negative-below, extended-field}
 use Rattle.graph.specs.Layout.{countOf}
 use Rattle.graph.specs.Node as node
 use Rattle.graph.specs.Node.{typeAt, rangeAt}
-use Rattle.graph.specs.Insert.{literal, orElse}
+use Rattle.graph.specs.Insert.{literal}
+use Rattle.fold.specs.Operator.{comparisons}
 use Rattle.fold.specs.Shape.{sameType}
-use Rattle.fold.specs.Range.{bothGiven, heldTo, bitsRule, integerRule, unaryRange, binaryRange}
+use Rattle.fold.specs.Range.{heldTo, bitsRule, integerRule, unaryRange, binaryRange, rangedAt}
 use Rattle.native.specs.Typing.{isBits, isNumber, unaryTyped}
 use Rattle.plan.specs.Plan.{constantOr}
-use Rattle.plan.specs.Single.{isView, addOr, unaryPlan}
+use Rattle.plan.specs.OneOperand.{isView, addOr, unaryPlan}
 use Rattle.meaning.specs.Value.{size, valued, andThen, unaryMeans}
-use Rattle.meaning.proofs.Worlds.{World, value}
+use Rattle.meaning.proofs.Worlds.{World, operand, value}
 use Rattle.meaning.proofs.Values.{typed-is, then-is, truth-small}
 use Rattle.meaning.proofs.Invariant.{storedTyped, Ends, Inv, inv-width, inv-valid, Storable}
-use Rattle.meaning.proofs.Answers.{both-given, by-test, Each, each-none, each-some, each-provided, each-mapped, each-else}
+use Rattle.meaning.proofs.Answers.{both-given, by-test, of-any, among, answering, Each, each-none, each-some, each-provided, each-mapped, each-else}
 use Rattle.meaning.proofs.Constants.{stored-low, stored-high}
 use Rattle.meaning.proofs.Plans.{Covers, Claim}
 use Rattle.meaning.proofs.Views.{same-type, value-small, value-pattern, covers-truncate, fits-facts, fits-small}
-use Rattle.meaning.proofs.Ranges.{fitted-is, quotient-is, type-ends, unary-within}
+use Rattle.meaning.proofs.Ranges.{bitsRules, integerRules, fitted-is, quotient-is, type-ends, stored-within, held-at}
 use Rattle.meaning.proofs.Field.{literal-value}
 
 -- ---- what holds of the range of each rule holds of what a node's rule gives
@@ -57,47 +59,14 @@ module _ (P : Interval → Type 0) (a b : Interval) (add : Each P (addInterval a
   each-integer : Each P (quotInterval a b) → Each P (remInterval a b) → Each P (udivInterval a b) → Each P (uremInterval a b) → (o : Binary)
       → Each P (integerRule o a b)
   unfolding integerRule
-  each-integer quot rem udiv urem bi.Add = add
-  each-integer quot rem udiv urem bi.Sub = sub
-  each-integer quot rem udiv urem bi.Mul = mul
-  each-integer quot rem udiv urem bi.And = conj
-  each-integer quot rem udiv urem bi.Or = each-none P
-  each-integer quot rem udiv urem bi.Xor = each-none P
-  each-integer quot rem udiv urem bi.ShiftLeft = each-none P
-  each-integer quot rem udiv urem bi.ShiftRight = each-none P
-  each-integer quot rem udiv urem bi.ArithmeticShiftRight = each-none P
-  each-integer quot rem udiv urem bi.Equal = each-none P
-  each-integer quot rem udiv urem bi.NotEqual = each-none P
-  each-integer quot rem udiv urem bi.LessSigned = each-none P
-  each-integer quot rem udiv urem bi.LessUnsigned = each-none P
-  each-integer quot rem udiv urem bi.LessEqualSigned = each-none P
-  each-integer quot rem udiv urem bi.LessEqualUnsigned = each-none P
-  each-integer quot rem udiv urem bi.DivideSigned = quot
-  each-integer quot rem udiv urem bi.RemainderSigned = rem
-  each-integer quot rem udiv urem bi.DivideUnsigned = udiv
-  each-integer quot rem udiv urem bi.RemainderUnsigned = urem
+  each-integer quot rem udiv urem o r e =
+      of-any (λ o. Each P (integerRule o a b)) integerRules add sub mul conj quot rem udiv urem o
+      (answering integerRules (λ o. integerRule o a b) refl o e) r e
 
   each-bits : Each P (shlInterval a b) → Each P (shrInterval a b) → (o : Binary) → Each P (bitsRule o a b)
   unfolding bitsRule
-  each-bits shl shr bi.Add = add
-  each-bits shl shr bi.Sub = sub
-  each-bits shl shr bi.Mul = mul
-  each-bits shl shr bi.And = conj
-  each-bits shl shr bi.Or = each-none P
-  each-bits shl shr bi.Xor = each-none P
-  each-bits shl shr bi.ShiftLeft = shl
-  each-bits shl shr bi.ShiftRight = shr
-  each-bits shl shr bi.ArithmeticShiftRight = each-none P
-  each-bits shl shr bi.Equal = each-none P
-  each-bits shl shr bi.NotEqual = each-none P
-  each-bits shl shr bi.LessSigned = each-none P
-  each-bits shl shr bi.LessUnsigned = each-none P
-  each-bits shl shr bi.LessEqualSigned = each-none P
-  each-bits shl shr bi.LessEqualUnsigned = each-none P
-  each-bits shl shr bi.DivideSigned = each-none P
-  each-bits shl shr bi.RemainderSigned = each-none P
-  each-bits shl shr bi.DivideUnsigned = each-none P
-  each-bits shl shr bi.RemainderUnsigned = each-none P
+  each-bits shl shr o r e =
+      of-any (λ o. Each P (bitsRule o a b)) bitsRules add sub mul conj shl shr o (answering bitsRules (λ o. bitsRule o a b) refl o e) r e
 
 -- ---- ends of 128 bits
 
@@ -178,7 +147,7 @@ module _ (a b : Interval) (f : Ends a) (g : Ends b) where
   and-ends : Each Ends (andInterval a b)
   unfolding andInterval
   and-ends =
-      each-provided Ends (both (nonnegative a) (nonnegative b)) (λ q. between-ends _ _ (each-some Small _ (pow-pos 127)) (each-some Small _ (min-small (a .high) (b .high) (f .high) (g .high))))
+      each-provided Ends (nonnegative a && nonnegative b) (λ q. between-ends _ _ (each-some Small _ (pow-pos 127)) (each-some Small _ (min-small (a .high) (b .high) (f .high) (g .high))))
 
   quot-ends : Each Ends (quotInterval a b)
   unfolding quotInterval
@@ -190,20 +159,20 @@ module _ (a b : Interval) (f : Ends a) (g : Ends b) where
 
   udiv-ends : Each Ends (udivInterval a b)
   unfolding udivInterval
-  udiv-ends = each-provided Ends (both (nonnegative a) (ltZ (pos 0) (b .low))) (λ q. between-ends _ _ (each-some Small _ (pow-pos 127)) (quotient-small _ _))
+  udiv-ends = each-provided Ends (nonnegative a && ltZ (pos 0) (b .low)) (λ q. between-ends _ _ (each-some Small _ (pow-pos 127)) (quotient-small _ _))
 
   urem-ends : Each Ends (uremInterval a b)
   unfolding uremInterval
-  urem-ends = each-provided Ends (both (nonnegative a) (ltZ (pos 0) (b .low))) (λ q. between-ends _ _ (each-some Small _ (pow-pos 127)) (at-most-small (a .high) _ (f .high) (fitted-small _)))
+  urem-ends = each-provided Ends (nonnegative a && ltZ (pos 0) (b .low)) (λ q. between-ends _ _ (each-some Small _ (pow-pos 127)) (at-most-small (a .high) _ (f .high) (fitted-small _)))
 
   shl-ends : Each Ends (shlInterval a b)
   unfolding shlInterval
-  shl-ends = each-provided Ends (both (nonnegative a) (nonnegative b)) (λ q. between-ends _ _ (shifted-small _ _) (shifted-small _ _))
+  shl-ends = each-provided Ends (nonnegative a && nonnegative b) (λ q. between-ends _ _ (shifted-small _ _) (shifted-small _ _))
 
   shr-ends : Each Ends (shrInterval a b)
   unfolding shrInterval
   shr-ends =
-      each-provided Ends (both (nonnegative a) (nonnegative b)) (λ q. each-some Ends _ (record {
+      each-provided Ends (nonnegative a && nonnegative b) (λ q. each-some Ends _ (record {
         low = lt-of-le-of-lt (mag-shr (a .low) _) (f .low);
         high = lt-of-le-of-lt (mag-shr (a .high) _) (f .high);
       }))
@@ -222,7 +191,7 @@ given-ends rule k ra rb f g c e =
 
 filtered-ends : (w : ℕ) (a : Interval) → Ends a → Each Ends (filtered w a)
 unfolding filtered
-filtered-ends w a f = each-provided Ends (both (ltb w 128) (both (nonnegative a) (leZ (a .high) (pos (2 ^ w - 1))))) (λ q. each-some Ends a f)
+filtered-ends w a f = each-provided Ends (ltb w 128 && (nonnegative a && leZ (a .high) (pos (2 ^ w - 1)))) (λ q. each-some Ends a f)
 
 held-ends : (w : ℕ) (m : Option Interval) → Each Ends m → Each Ends (orElse (heldTo w m) (typeInterval (ty.Bits w)))
 held-ends w none f = type-ends (ty.Bits w)
@@ -241,7 +210,7 @@ binary-ends o ty.Integer ra rb r f g e =
 extended-ends : (w : ℕ) → Each Ends (signExtended w)
 unfolding signExtended
 extended-ends w a e =
-    let p = provided-is (both (ltb 0 w) (ltb w 128)) _ e in
+    let p = provided-is (ltb 0 w && ltb w 128) _ e in
     let l : w < 128 = ltb-true w 128 (tests (ltb 0 w) (ltb w 128) (p .0) .1) in
     let k : w - 1 ≤ 127 = omega arith in
     let h : 0 < 2 ^ (w - 1) = pow-pos (w - 1) in
@@ -253,7 +222,7 @@ negated-ends : (a : Interval) → Each Ends (negInterval a)
 unfolding negInterval
 negated-ends a = between-ends _ _ (fitted-small _) (fitted-small _)
 
-pub unary-ends : (o : Unary) (t : ScalarType) (ra r : Option Interval) → ((a : Interval) → ra ≡ some a → Ends a) → unaryRange t o ra ≡ some r
+unary-ends : (o : Unary) (t : ScalarType) (ra r : Option Interval) → ((a : Interval) → ra ≡ some a → Ends a) → unaryRange t o ra ≡ some r
     → (a : Interval) → r ≡ some a → Ends a
 unfolding unaryRange
 unary-ends un.BoolNot t ra r f e = subst (Each Ends) (some-is e) (type-ends t)
@@ -302,7 +271,7 @@ binary-valid o ty.Integer ta tb ra rb r f g ends e =
     let (a, b, i, j, k) = both-given (integerRule o) ra rb q in
     each-some (Valid ty.Integer) c (integer-valid (integer-full a b (f a i .full) (g b j .full) o c k))) r e
 
-pub unary-valid : (o : Unary) (t s : ScalarType) (ra r : Option Interval) → unaryTyped o s t ≡ true → ((a : Interval) → ra ≡ some a → Valid s a)
+unary-valid : (o : Unary) (t s : ScalarType) (ra r : Option Interval) → unaryTyped o s t ≡ true → ((a : Interval) → ra ≡ some a → Valid s a)
     → unaryRange t o ra ≡ some r → (a : Interval) → r ≡ some a → Valid t a
 unfolding unaryRange
 unary-valid un.BoolNot t s ra r d f e = subst (Each (Valid t)) (some-is e) (type-valid t)
@@ -341,15 +310,15 @@ zero-small true n h = h
 zero-small false n h = pow-pos 128
 
 -- BitNot gives Bits
-gives-bits : (s t : ScalarType) → both (isBits s) (sameType t s) ≡ true → isBits t ≡ true
+gives-bits : (s t : ScalarType) → isBits s && sameType t s ≡ true → isBits t ≡ true
 gives-bits s t d = let c = tests (isBits s) (sameType t s) d in ap isBits (same-type t s (c .1)) ∙ c .0
 
 -- the result's type is refused
-refused : (a : Bool) → both a false ≡ true → ⊥
+refused : (a : Bool) → a && false ≡ true → ⊥
 refused a d = false≢true (tests a false d .1)
 
-bool-unary : (o : Unary) (s : ScalarType) (x : ℕ) → unaryTyped o s ty.Bool ≡ true → Each (Below 2) (evaluateUnary o x)
-unfolding evaluateUnary
+bool-unary : (o : Unary) (s : ScalarType) (x : ℕ) → unaryTyped o s ty.Bool ≡ true → Each (Below 2) (unaryValue o x)
+unfolding unaryValue
 bool-unary un.BoolNot s x d = each-some (Below 2) _ (truth-small (eqb x 0))
 bool-unary un.BitNot s x d = absurd (false≢true (gives-bits s ty.Bool d))
 bool-unary un.Negate s x d = absurd (refused (sameType s ty.Integer) d)
@@ -358,8 +327,8 @@ bool-unary (un.SignExtend w) s x d = absurd (refused (sameType s (ty.Bits w)) d)
 bool-unary (un.LeadingZeros w) s x d = absurd (refused (sameType s (ty.Bits w)) d)
 bool-unary (un.TrailingZeros w) s x d = absurd (refused (sameType s (ty.Bits w)) d)
 
-integer-unary : (o : Unary) (s : ScalarType) (x : ℕ) → unaryTyped o s ty.Integer ≡ true → Each (Below (2 ^ 128)) (evaluateUnary o x)
-unfolding evaluateUnary
+integer-unary : (o : Unary) (s : ScalarType) (x : ℕ) → unaryTyped o s ty.Integer ≡ true → Each (Below (2 ^ 128)) (unaryValue o x)
+unfolding unaryValue
 integer-unary un.BoolNot s x d = absurd (refused (sameType s ty.Bool) d)
 integer-unary un.BitNot s x d = absurd (false≢true (gives-bits s ty.Integer d))
 integer-unary un.Negate s x d = patterns (fitted (negℤ (signed 128 x)))
@@ -371,44 +340,41 @@ integer-unary (un.LeadingZeros w) s x d =
 integer-unary (un.TrailingZeros w) s x d =
     let l = trailing-le 128 (x % 2 ^ w) in each-some (Below (2 ^ 128)) (trailingIn w x) (count-small (trailingIn w x) (omega arith))
 
-pub unary-small : (o : Unary) (s t : ScalarType) (x u : ℕ) → unaryTyped o s t ≡ true → typeWidth s ≤ 128 → typeWidth t ≤ 128 → x < size s
-    → evaluateUnary o x ≡ some u → reduced t u < size t
+unary-small : (o : Unary) (s t : ScalarType) (x u : ℕ) → unaryTyped o s t ≡ true → typeWidth s ≤ 128 → typeWidth t ≤ 128 → x < size s
+    → unaryValue o x ≡ some u → reduced t u < size t
 unary-small o s ty.Bool x u d h k l e = bool-unary o s x d u e
 unary-small o s (ty.Bits w) x u d h k l e = mod-lt u (pow-pos w)
 unary-small o s ty.Integer x u d h k l e = integer-unary o s x d u e
+
+-- the operators of Bool results
+abbrev boolOps : List Binary
+boolOps = bi.And ∷ bi.Or ∷ bi.Xor ∷ comparisons
 
 module _ (a b : ScalarType) (x y : ℕ) (l : x < size a) (m : y < size b) where
   left-small : (t : ScalarType) → sameType a t ≡ true → x < size t
   left-small t d = subst (λ (s : ScalarType). x < size s) (same-type a t d) l
 
   -- both operands of the result's type
-  operands-small : (t : ScalarType) → both (sameType a t) (sameType b t) ≡ true → (x < size t) × (y < size t)
+  operands-small : (t : ScalarType) → sameType a t && sameType b t ≡ true → (x < size t) × (y < size t)
   operands-small t d =
       let c = tests (sameType a t) (sameType b t) d in
       (left-small t (c .0), subst (λ (s : ScalarType). y < size s) (same-type b t (c .1)) m)
 
-  bool-binary : (o : Binary) → storedTyped o a b ty.Bool ≡ true → Each (Below 2) (binaryValue o ty.Bool x y)
-  bool-binary bi.Add d = absurd (false≢true d)
-  bool-binary bi.Sub d = absurd (false≢true d)
-  bool-binary bi.Mul d = absurd (false≢true d)
-  bool-binary bi.And d = let (p, q) = operands-small ty.Bool d in each-some (Below 2) _ (and-lt 1 x y p q)
-  bool-binary bi.Or d = let (p, q) = operands-small ty.Bool d in each-some (Below 2) _ (or-lt 1 x y p q)
-  bool-binary bi.Xor d = let (p, q) = operands-small ty.Bool d in each-some (Below 2) _ (xor-lt 1 x y p q)
-  bool-binary bi.ShiftLeft d = absurd (false≢true d)
-  bool-binary bi.ShiftRight d = absurd (false≢true d)
-  bool-binary bi.ArithmeticShiftRight d = absurd (false≢true d)
-  bool-binary bi.Equal d = each-some (Below 2) _ (truth-small (eqb x y))
-  bool-binary bi.NotEqual d = each-some (Below 2) _ (truth-small (not (eqb x y)))
-  bool-binary bi.LessSigned d = each-some (Below 2) _ (truth-small (ltZ (signed 128 x) (signed 128 y)))
-  bool-binary bi.LessUnsigned d = each-some (Below 2) _ (truth-small (ltb x y))
-  bool-binary bi.LessEqualSigned d = each-some (Below 2) _ (truth-small (leZ (signed 128 x) (signed 128 y)))
-  bool-binary bi.LessEqualUnsigned d = each-some (Below 2) _ (truth-small (leb x y))
-  bool-binary bi.DivideSigned d = absurd (false≢true d)
-  bool-binary bi.RemainderSigned d = absurd (false≢true d)
-  bool-binary bi.DivideUnsigned d = absurd (false≢true d)
-  bool-binary bi.RemainderUnsigned d = absurd (false≢true d)
+  abbrev BoolBinary : Binary → Type 0
+  BoolBinary o = storedTyped o a b ty.Bool ≡ true → Each (Below 2) (unreduced o ty.Bool x y)
 
-  integer-binary : (o : Binary) → storedTyped o a b ty.Integer ≡ true → Each (Below (2 ^ 128)) (binaryValue o ty.Integer x y)
+  bool-binary : (o : Binary) → BoolBinary o
+  bool-binary o d =
+      let truth : (t : Bool) → Each (Below 2) (some (fromBool t)) = λ t. each-some (Below 2) _ (truth-small t) in
+      of-any BoolBinary boolOps
+      (λ d. let (p, q) = operands-small ty.Bool d in each-some (Below 2) _ (and-lt 1 x y p q))
+      (λ d. let (p, q) = operands-small ty.Bool d in each-some (Below 2) _ (or-lt 1 x y p q))
+      (λ d. let (p, q) = operands-small ty.Bool d in each-some (Below 2) _ (xor-lt 1 x y p q))
+      (λ d. truth (ltZ (signed 128 x) (signed 128 y))) (λ d. truth (ltb x y)) (λ d. truth (leZ (signed 128 x) (signed 128 y))) (λ d. truth (leb x y))
+      (λ d. truth (eqb x y)) (λ d. truth (not (eqb x y)))
+      o (among boolOps (λ o. storedTyped o a b ty.Bool) refl o d) d
+
+  integer-binary : (o : Binary) → storedTyped o a b ty.Integer ≡ true → Each (Below (2 ^ 128)) (unreduced o ty.Integer x y)
   integer-binary bi.Add d = signed-patterns i128.checked-add x y
   integer-binary bi.Sub d = signed-patterns i128.checked-sub x y
   integer-binary bi.Mul d = signed-patterns i128.checked-mul x y
@@ -435,19 +401,19 @@ module _ (a b : ScalarType) (x y : ℕ) (l : x < size a) (m : y < size b) where
       each-provided (Below (2 ^ 128)) (ltb 0 y) (λ q. each-some (Below (2 ^ 128)) _ (lt-of-le-of-lt (mod-le x y) (operands-small ty.Integer d .0)))
 
 pub binary-small : (o : Binary) (a b t : ScalarType) (x y v : ℕ) → storedTyped o a b t ≡ true → typeWidth t ≤ 128 → x < size a → y < size b
-    → evaluateBinary o t x y ≡ some v → v < size t
-unfolding evaluateBinary
-binary-small o a b ty.Bool x y v d h l m = each-mapped (Below 2) (reduced ty.Bool) (binaryValue o ty.Bool x y) (bool-binary a b x y l m o d) v
+    → binaryValue o t x y ≡ some v → v < size t
+unfolding binaryValue
+binary-small o a b ty.Bool x y v d h l m = each-mapped (Below 2) (reduced ty.Bool) (unreduced o ty.Bool x y) (bool-binary a b x y l m o d) v
 binary-small o a b (ty.Bits w) x y v d h l m =
-    each-mapped (Below (2 ^ w)) (reduced (ty.Bits w)) (binaryValue o (ty.Bits w) x y) (λ n e. mod-lt n (pow-pos w)) v
+    each-mapped (Below (2 ^ w)) (reduced (ty.Bits w)) (unreduced o (ty.Bits w) x y) (λ n e. mod-lt n (pow-pos w)) v
 binary-small o a b ty.Integer x y v d h l m =
-    each-mapped (Below (2 ^ 128)) (reduced ty.Integer) (binaryValue o ty.Integer x y) (integer-binary a b x y l m o d) v
+    each-mapped (Below (2 ^ 128)) (reduced ty.Integer) (unreduced o ty.Integer x y) (integer-binary a b x y l m o d) v
 
 -- ---- unary's plans
 
 -- a value below half of w bits is its own sign extension
-extended-same : (w x : ℕ) → 0 < w → w ≤ 128 → x < 2 ^ (w - 1) → x < 2 ^ 128 → evaluateUnary (un.SignExtend w) x ≡ some x
-unfolding evaluateUnary
+extended-same : (w x : ℕ) → 0 < w → w ≤ 128 → x < 2 ^ (w - 1) → x < 2 ^ 128 → unaryValue (un.SignExtend w) x ≡ some x
+unfolding unaryValue
 extended-same w x p h l k =
     let t : 2 ^ w ≡ 2 ^ (w - 1) + 2 ^ (w - 1) = half-twice w p in
     rw (ne-eqb w 0 (omega arith))
@@ -465,7 +431,7 @@ view-covers {ρ} {g} i n l t (un.SignExtend w) d e sure = λ v q.
     let (h, f) = tests (leb w 128) _ c in
     let k : w ≤ 128 = leb-true w 128 h in
     let (a, r, inside) = fits-facts (w - 1) (rangeAt g n) f in
-    let (x, xs, m) = then-is (value ρ g n) (λ x. andThen (evaluateUnary (un.SignExtend w) x) (valued t)) v q in
+    let (x, xs, m) = then-is (value ρ g n) (λ x. andThen (unaryValue (un.SignExtend w) x) (valued t)) v q in
     let s = extended-same w x (ltb-true 0 w p) k (fits-small i n l (w - 1) (omega arith) a r inside sure x xs) (value-pattern i n l x xs) in
     rw (xs) (rw s at m)
 view-covers i n l t (un.LeadingZeros w) d e sure = absurd (false≢true e)
@@ -473,13 +439,13 @@ view-covers i n l t (un.TrailingZeros w) d e sure = absurd (false≢true e)
 
 module _ {ρ : World} {g : List ℕ} (i : Inv ρ g) (n : ℕ) (l : n < countOf g) (t : ScalarType) (o : Unary) (wide : typeWidth t ≤ 128)
     (width : unaryWidth o ≤ 128) (typed : unaryTyped o (typeAt g n) t ≡ true) where
-  pub unary-constant-claim : (c : ℕ) → literal g n ≡ some c → Claim ρ g t (unaryMeans t o (value ρ g n)) (constantOr t (evaluateUnary o c))
-  unary-constant-claim c e = go (evaluateUnary o c) refl
+  pub unary-constant-claim : (c : ℕ) → literal g n ≡ some c → Claim ρ g t (unaryMeans t o (value ρ g n)) (constantOr t (unaryValue o c))
+  unary-constant-claim c e = go (unaryValue o c) refl
     where
       same : value ρ g n ≡ some c
       same = literal-value ρ g i n c l e
 
-      go : (r : Option ℕ) → evaluateUnary o c ≡ r → Claim ρ g t (unaryMeans t o (value ρ g n)) (constantOr t r)
+      go : (r : Option ℕ) → unaryValue o c ≡ r → Claim ρ g t (unaryMeans t o (value ρ g n)) (constantOr t r)
       go none q = tt
       go (some u) q = (
         refl,
@@ -508,11 +474,7 @@ module _ {ρ : World} {g : List ℕ} (i : Inv ρ g) (n : ℕ) (l : n < countOf g
         typed = typed;
         refined = λ sure. tt;
         ends = ends;
-        within = λ sure v q.
-            let (x, xs, f) = then-is (value ρ g n) (λ x. andThen (evaluateUnary o x) (valued t)) v q in
-            let (u, us, h) = then-is (evaluateUnary o x) (valued t) v f in
-            let (s, k) = typed-is t (reduced t u) v h in
-            unary-within o t (typeAt g n) (rangeAt g n) r x u v typed (i .ranged n l sure x xs) us s k e;
+        within = λ sure v q. stored-within (ρ .env) t wide (rangedAt g) (operand ρ g) r v (node.unary o n) (typed, held-at i n l sure) q e;
       }
 
   add-claim : (r : Option (Option Interval)) → unaryRange t o (rangeAt g n) ≡ r

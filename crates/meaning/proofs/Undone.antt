@@ -21,7 +21,7 @@ use Rattle.range.proofs.Order.{up, down, orders}
 use Rattle.range.proofs.Sound.{point-in, tests, either, at-most, add-in, sub-in}
 use Rattle.range.proofs.Answers.{none-some, some-is, provided-is}
 use Rattle.range.proofs.Valid.{Valid}
-use Rattle.evaluate.specs.Evaluate.{evaluateBinary}
+use Rattle.evaluate.specs.Evaluate.{binaryValue}
 use Rattle.evaluate.specs.U128 as u128
 use Rattle.evaluate.specs.declared.Binary.{Binary}
 use Rattle.evaluate.specs.declared.Binary.the-variants as bi
@@ -29,9 +29,10 @@ use Rattle.evaluate.proofs.Fields.{narrow, signed-narrow}
 use Rattle.bits.proofs.Sums.{Wrap, under, over, wrap}
 use Rattle.graph.specs.Layout.{countOf}
 use Rattle.graph.specs.Node.{typeAt}
-use Rattle.fold.specs.Shape.{sameType, isAny, Chain, chainAt, origin}
+use Rattle.fold.specs.Shape.{sameType, isAny, ByConstant, byConstantAt, origin}
+use Rattle.fold.specs.Operator.{sums}
 use Rattle.assume.specs.Limits.{Limits, limitedTo}
-use Rattle.assume.specs.Refine.{sums, undoneBits, ordered, undoneInteger, undone, Next, next, baseOf}
+use Rattle.assume.specs.Refine.{undoneBits, ordered, undoneInteger, undone, Next, next, baseOf}
 use Rattle.meaning.specs.Value.{size, integerOf}
 use Rattle.meaning.proofs.Worlds.{World, value}
 use Rattle.meaning.proofs.Answers.{of-any, Each, each-some, each-given, each-provided, each-mapped}
@@ -133,7 +134,7 @@ module _ (w : ℕ) (thin : w < 128) (f : ℕ → ℕ) (k : ℕ) (lk : k ≤ 2 ^ 
       end u j q l = ap (λ (i : ℤ). f (residue 128 i) % 2 ^ w) q ∙ ap (λ (i : ℕ). f i % 2 ^ w) (residue-pos 128 j (pattern (ty.Bits w) j wide l)) ∙ law j l
 
 -- what y is by c, x is by what is undone
-undoes : (o : Binary) (w c x y v : ℕ) → Shifts o w c y v → x < 2 ^ w → evaluateBinary o (ty.Bits w) x c ≡ some y → x ≡ v % 2 ^ w
+undoes : (o : Binary) (w c x y v : ℕ) → Shifts o w c y v → x < 2 ^ w → binaryValue o (ty.Bits w) x c ≡ some y → x ≡ v % 2 ^ w
 undoes o w c x y v s l e = eqb-true x (v % 2 ^ w) (sym (s x y l e) ∙ eq-eqb y y refl)
 
 -- ---- of any type
@@ -141,38 +142,34 @@ undoes o w c x y v s l e = eqb-true x (v % 2 ^ w) (sym (s x y l e) ∙ eq-eqb y 
 module _ (c x y : ℕ) (a r : Interval) where
   -- the base lies in what is undone
   abbrev Undoes : ScalarType → Binary → Option Interval → Type 0
-  Undoes t o u = evaluateBinary o t x c ≡ some y → u ≡ some r → (integerOf t x) ∈ r
+  Undoes t o u = binaryValue o t x c ≡ some y → u ≡ some r → (integerOf t x) ∈ r
 
   -- in Bits(w)
   undone-bits : (w : ℕ) → w < 128 → c < 2 ^ w → x < 2 ^ w → y < 2 ^ w → Valid (ty.Bits w) a → (pos y) ∈ a → (o : Binary) → isAny sums o ≡ true
       → Undoes (ty.Bits w) o (ordered (undoneBits w o c (a .low)) (undoneBits w o c (a .high)))
   undone-bits w thin lc lx ly valid has =
       let wide : w ≤ 128 = omega arith in
-      of-any (λ o. Undoes (ty.Bits w) o (ordered (undoneBits w o c (a .low)) (undoneBits w o c (a .high)))) sums (
-        λ e q. bits-in w thin (λ n. u128.wrapping-sub n c) (2 ^ w - c) (omega arith) (λ n l. sub-low w n c wide l lc) x y a r valid ly
-            (undoes bi.Add w c x y _ (add-shifts w c y wide lc ly) lx e) has q,
-        (
-          λ e q. bits-in w thin (λ n. u128.wrapping-add n c) c (omega arith) (λ n l. narrow (n + c) 128 w wide) x y a r valid ly
-              (undoes bi.Sub w c x y _ (sub-shifts w c y wide lc ly) lx e) has q,
-          tt,
-        ),
-      )
+      of-any (λ o. Undoes (ty.Bits w) o (ordered (undoneBits w o c (a .low)) (undoneBits w o c (a .high)))) sums
+      (λ e q.
+      bits-in w thin (λ n. u128.wrapping-sub n c) (2 ^ w - c) (omega arith) (λ n l. sub-low w n c wide l lc) x y a r valid ly
+      (undoes bi.Add w c x y _ (add-shifts w c y wide lc ly) lx e) has q)
+      (λ e q.
+      bits-in w thin (λ n. u128.wrapping-add n c) c (omega arith) (λ n l. narrow (n + c) 128 w wide) x y a r valid ly
+      (undoes bi.Sub w c x y _ (sub-shifts w c y wide lc ly) lx e) has q)
 
   -- in Integer
   undone-integer : (signed 128 y) ∈ a → (o : Binary) → isAny sums o ≡ true
       → Undoes ty.Integer o (between (undoneInteger o (signed 128 c) (a .low)) (undoneInteger o (signed 128 c) (a .high)))
-  unfolding evaluateBinary addInterval subInterval
+  unfolding binaryValue addInterval subInterval
   undone-integer h =
       let k = signed 128 c in
-      of-any (λ o. Undoes ty.Integer o (between (undoneInteger o k (a .low)) (undoneInteger o k (a .high)))) sums (
-        λ e q. subst (λ (z : ℤ). z ∈ r) (ap (λ (z : ℤ). z -ℤ k) (checked-is _ y e .1) ∙ +ℤ-negℤ-cancel (signed 128 x) k)
-            (sub-in a (point k) r (signed 128 y) k h (point-in k) q),
-        (
-          λ e q. subst (λ (z : ℤ). z ∈ r) (ap (λ (z : ℤ). z +ℤ k) (checked-is _ y e .1) ∙ -ℤ-+ℤ-cancel (signed 128 x) k)
-              (add-in a (point k) r (signed 128 y) k h (point-in k) q),
-          tt,
-        ),
-      )
+      of-any (λ o. Undoes ty.Integer o (between (undoneInteger o k (a .low)) (undoneInteger o k (a .high)))) sums
+      (λ e q.
+      subst (λ (z : ℤ). z ∈ r) (ap (λ (z : ℤ). z -ℤ k) (checked-is _ y e .1) ∙ +ℤ-negℤ-cancel (signed 128 x) k)
+      (sub-in a (point k) r (signed 128 y) k h (point-in k) q))
+      (λ e q.
+      subst (λ (z : ℤ). z ∈ r) (ap (λ (z : ℤ). z +ℤ k) (checked-is _ y e .1) ∙ -ℤ-+ℤ-cancel (signed 128 x) k)
+      (add-in a (point k) r (signed 128 y) k h (point-in k) q))
 
   -- in any type
   undone-in : (t : ScalarType) → c < size t → x < size t → y < size t → Valid t a → (integerOf t y) ∈ a → (o : Binary) → Undoes t o (undone t o c a)
@@ -200,12 +197,12 @@ module _ {ρ : World} {g : List ℕ} (i : Inv ρ g) (n : ℕ) (l : n < countOf g
   Follows x = Bounded ρ g (x .node) (limitedTo (x .range))
 
   -- the base of the sum
-  chain-follows : (c : Chain) → chainAt g (origin g n) ≡ some c → typeAt g (c .base) ≡ typeAt g n → (r : Interval)
+  by-constant-follows : (c : ByConstant) → byConstantAt g (origin g n) ≡ some c → typeAt g (c .base) ≡ typeAt g n → (r : Interval)
       → undone (typeAt g n) (c .op) (c .value) a ≡ some r → Follows (next (c .base) r)
-  chain-follows c e s r q =
+  by-constant-follows c e s r q =
       let t = typeAt g n in
       let (lo, same) = origin-value i n l in
-      let sum : Arithmetic (c .op) = of-any Arithmetic sums (λ a b t. refl, (λ a b t. refl, tt)) (c .op) (undone-sums t (c .op) (c .value) a r q) in
+      let sum : Arithmetic (c .op) = of-any Arithmetic sums (λ a b t. refl) (λ a b t. refl) (c .op) (undone-sums t (c .op) (c .value) a r q) in
       let k = link i (origin g n) c (typeAt g (origin g n)) lo refl e sum in
       let to : typeAt g (origin g n) ≡ t = sym (k .type) ∙ s in
       record {
@@ -215,7 +212,7 @@ module _ {ρ : World} {g : List ℕ} (i : Inv ρ g) (n : ℕ) (l : n < countOf g
             let (x, ex, ev) = k .means y (sym (same sure) ∙ ey) in
             let small : x < size t = subst (λ (u : ScalarType). x < size u) s (value-small i (c .base) (k .here) x ex) in
             let d = undone-in (c .value) x y a r t (subst (λ (u : ScalarType). c .value < size u) to (k .small)) small (value-small i n l y ey) valid h (c .op)
-            ((λ z. evaluateBinary (c .op) (sym to z) x (c .value)) ∙ ev) q in
+            ((λ z. binaryValue (c .op) (sym to z) x (c .value)) ∙ ev) q in
             (x, ex, rw s (obeys (integerOf t x) r d));
       }
 
@@ -223,9 +220,9 @@ module _ {ρ : World} {g : List ℕ} (i : Inv ρ g) (n : ℕ) (l : n < countOf g
   pub base-follows : Each Follows (baseOf g n a)
   unfolding baseOf
   base-follows =
-      each-given Follows (chainAt g (origin g n))
+      each-given Follows (byConstantAt g (origin g n))
       (λ c e.
       each-provided Follows (sameType (typeAt g (c .base)) (typeAt g n))
       (λ s.
       each-mapped Follows (next (c .base)) (undone (typeAt g n) (c .op) (c .value) a)
-      (λ r q. chain-follows c e (same-type (typeAt g (c .base)) (typeAt g n) s) r q)))
+      (λ r q. by-constant-follows c e (same-type (typeAt g (c .base)) (typeAt g n) s) r q)))

@@ -11,13 +11,14 @@ use borrow.Author.Tests.{lt-ltb, ltb-true}
 use lib.Dec.{ltb}
 use lib.ListN.{length, getD, length-append, List·getD-append}
 use lib.Seq.{getD-at}
+use Rattle.word.specs.Option.{fromBool}
 use Rattle.range.specs.declared.ScalarType.{ScalarType}
 use Rattle.range.proofs.Answers.{none-some, some-is, provided-is}
-use Rattle.evaluate.specs.Evaluate.{fromBool, evaluateUnary, evaluateBinary}
+use Rattle.evaluate.specs.Evaluate.{unaryValue, binaryValue}
 use Rattle.graph.specs.Node as node
 use Rattle.graph.specs.Node.{Op, typeAt, operationAt}
 use Rattle.graph.specs.Insert.{start}
-use Rattle.meaning.specs.Value.{Env, size, ofType, andThen, operationMeans, values, value}
+use Rattle.meaning.specs.Value.{Env, size, ofType, andThen, Operand, operationMeans, missing, operands, value, operand}
 
 -- ---- defined values
 
@@ -50,39 +51,43 @@ then-typed t (some x) h = typed-of t x (h x refl)
 -- ---- values by the nodes below
 
 module _ (ρ : Env) (g h : List ℕ) where
-  pub values-same : (m : ℕ) → ((i : ℕ) → i < m → typeAt h i ≡ typeAt g i) → ((i : ℕ) → i < m → operationAt h i ≡ operationAt g i)
-      → values ρ h m ≡ values ρ g m
-  unfolding values
-  values-same zero t o = refl
-  values-same (suc m) t o =
-      (λ k. values-same m (λ i l. t i (omega arith)) (λ i l. o i (omega arith)) k
-      ++ (operationMeans ρ (t m (omega arith) k) (o m (omega arith) k) (λ i. getD (values-same m (λ j l. t j (omega arith)) (λ j l. o j (omega arith)) k) i none) ∷ []))
+  operands-same : (m : ℕ) → ((i : ℕ) → i < m → typeAt h i ≡ typeAt g i) → ((i : ℕ) → i < m → operationAt h i ≡ operationAt g i)
+      → operands ρ h m ≡ operands ρ g m
+  unfolding operands
+  operands-same zero t o = refl
+  operands-same (suc m) t o =
+      let below = operands-same m (λ i l. t i (omega arith)) (λ i l. o i (omega arith)) in
+      (λ k. below k
+      ++ (record {
+        type = t m (omega arith) k;
+        val = operationMeans ρ (t m (omega arith) k) (o m (omega arith) k) (λ i. getD (below k) i missing);
+      } ∷ []))
 
   pub value-same : (n : ℕ) → ((i : ℕ) → i ≤ n → typeAt h i ≡ typeAt g i) → ((i : ℕ) → i ≤ n → operationAt h i ≡ operationAt g i)
       → value ρ h n ≡ value ρ g n
   unfolding value
   value-same n t o =
       (λ k. operationMeans ρ (t n (omega arith) k) (o n (omega arith) k)
-      (λ i. getD (values-same n (λ j l. t j (omega arith)) (λ j l. o j (omega arith)) k) i none))
+      (λ i. getD (operands-same n (λ j l. t j (omega arith)) (λ j l. o j (omega arith)) k) i missing))
 
 module _ (ρ : Env) (g : List ℕ) where
-  values-length : (m : ℕ) → length (values ρ g m) ≡ m
-  unfolding values
-  values-length zero = refl
-  values-length (suc m) = length-append (values ρ g m) _ ∙ ap (λ (n : ℕ). n + 1) (values-length m) ∙ add-one m
+  operands-length : (m : ℕ) → length (operands ρ g m) ≡ m
+  unfolding operands
+  operands-length zero = refl
+  operands-length (suc m) = length-append (operands ρ g m) _ ∙ ap (λ (n : ℕ). n + 1) (operands-length m) ∙ add-one m
 
-  pub values-at : (m i : ℕ) → i < m → getD (values ρ g m) i none ≡ value ρ g i
-  unfolding values value
-  values-at zero i l = absurd (omega arith)
-  values-at (suc m) i l = go (decLt i m) (λ q. values-at m i q)
+  operands-at : (m i : ℕ) → i < m → getD (operands ρ g m) i missing ≡ operand ρ g i
+  unfolding operands value
+  operands-at zero i l = absurd (omega arith)
+  operands-at (suc m) i l = go (decLt i m) (λ q. operands-at m i q)
     where
-      go : Dec (i < m) → (i < m → getD (values ρ g m) i none ≡ value ρ g i) → getD (values ρ g (suc m)) i none ≡ value ρ g i
-      go (yes q) ih = List·getD-append (values ρ g m) _ none i (omega (arith, values-length m)) ∙ ih q
-      go (no q) ih = let e : m ≡ i = omega arith in rw (← e) (getD-at (values ρ g m) _ [] none m (values-length m))
+      go : Dec (i < m) → (i < m → getD (operands ρ g m) i missing ≡ operand ρ g i) → getD (operands ρ g (suc m)) i missing ≡ operand ρ g i
+      go (yes q) ih = List·getD-append (operands ρ g m) _ missing i (omega (arith, operands-length m)) ∙ ih q
+      go (no q) ih = let e : m ≡ i = omega arith in rw (← e) (getD-at (operands ρ g m) _ [] missing m (operands-length m))
 
 -- ---- a value of the values of the operands
 
-pub means-same : (ρ : Env) (t : ScalarType) (n : ℕ) (o : Op) → start o ≤ n → (f h : ℕ → Option ℕ) → ((i : ℕ) → i < n → f i ≡ h i)
+pub means-same : (ρ : Env) (t : ScalarType) (n : ℕ) (o : Op) → start o ≤ n → (f h : ℕ → Operand) → ((i : ℕ) → i < n → f i ≡ h i)
     → operationMeans ρ t o f ≡ operationMeans ρ t o h
 means-same ρ t n (node.constant c) b f h e = refl
 means-same ρ t n (node.input i) b f h e = refl
@@ -94,22 +99,22 @@ means-same ρ t n (node.unary u i) b f h e = rw (e i (omega arith))
 means-same ρ t n (node.binary o i j) b f h e = rw (e i (omega arith), e j (omega arith))
 
 pub value-step : (ρ : Env) (g : List ℕ) (n : ℕ) → start (operationAt g n) ≤ n
-    → value ρ g n ≡ operationMeans ρ (typeAt g n) (operationAt g n) (value ρ g)
+    → value ρ g n ≡ operationMeans ρ (typeAt g n) (operationAt g n) (operand ρ g)
 unfolding value
-value-step ρ g n b = means-same ρ (typeAt g n) n (operationAt g n) b _ (value ρ g) (λ i l. values-at ρ g n i l)
+value-step ρ g n b = means-same ρ (typeAt g n) n (operationAt g n) b _ (operand ρ g) (λ i l. operands-at ρ g n i l)
 
 -- a defined value is of its node's type
-pub means-small : (ρ : Env) (t : ScalarType) (o : Op) (f : ℕ → Option ℕ) (v : ℕ) → operationMeans ρ t o f ≡ some v → v < size t
+pub means-small : (ρ : Env) (t : ScalarType) (o : Op) (f : ℕ → Operand) (v : ℕ) → operationMeans ρ t o f ≡ some v → v < size t
 means-small ρ t (node.constant c) f v e = typed-is t _ v e .1
 means-small ρ t (node.input i) f v e = typed-is t _ v e .1
-means-small ρ t (node.refine i) f v e = typed-is t _ v (then-is (f i) _ v e .2) .1
+means-small ρ t (node.refine i) f v e = typed-is t _ v (then-is (f i .val) _ v e .2) .1
 means-small ρ t (node.effect i) f v e = typed-is t _ v e .1
-means-small ρ t (node.slice i o w) f v e = typed-is t _ v (then-is (f i) _ v e .2) .1
-means-small ρ t (node.concat i j k) f v e = typed-is t _ v (then-is (f j) _ v (then-is (f i) _ v e .2) .2) .1
+means-small ρ t (node.slice i o w) f v e = typed-is t _ v (then-is (f i .val) _ v e .2) .1
+means-small ρ t (node.concat i j k) f v e = typed-is t _ v (then-is (f j .val) _ v (then-is (f i .val) _ v e .2) .2) .1
 means-small ρ t (node.unary u i) f v e =
-    let p = then-is (f i) _ v e in
-    typed-is t _ v (then-is (evaluateUnary u (p .0)) _ v (p .2) .2) .1
+    let p = then-is (f i .val) _ v e in
+    typed-is t _ v (then-is (unaryValue u (p .0)) _ v (p .2) .2) .1
 means-small ρ t (node.binary o i j) f v e =
-    let p = then-is (f i) _ v e in
-    let q = then-is (f j) _ v (p .2) in
-    typed-is t _ v (then-is (evaluateBinary o t (p .0) (q .0)) _ v (q .2) .2) .1
+    let p = then-is (f i .val) _ v e in
+    let q = then-is (f j .val) _ v (p .2) in
+    typed-is t _ v (then-is (binaryValue o t (p .0) (q .0)) _ v (q .2) .2) .1

@@ -21,7 +21,7 @@ use Rattle.range.proofs.Order.{le-parts}
 use Rattle.range.proofs.Sound.{tests, either}
 use Rattle.range.proofs.Answers.{some-is}
 use Rattle.range.proofs.Valid.{Valid}
-use Rattle.evaluate.specs.Evaluate.{evaluateUnary}
+use Rattle.evaluate.specs.Evaluate.{unaryValue}
 use Rattle.evaluate.specs.Operator.{typeWidth}
 use Rattle.evaluate.specs.declared.Unary.the-variants as un
 use Rattle.graph.specs.Layout.{countOf}
@@ -30,9 +30,9 @@ use Rattle.graph.specs.Node.{typeAt, rangeAt, operationAt}
 use Rattle.fold.specs.Shape.{sameType, notNegative, fits}
 use Rattle.native.specs.Typing.{isNumber, sameTypes, arithmetic}
 use Rattle.plan.specs.Plan as plan
-use Rattle.plan.specs.Single.{viewPlan, identityPlan}
+use Rattle.plan.specs.OneOperand.{viewPlan, identityPlan}
 use Rattle.meaning.specs.Value.{size, integerOf, ofType, valued, andThen, unaryMeans}
-use Rattle.meaning.proofs.Worlds.{World, value}
+use Rattle.meaning.proofs.Worlds.{World, operand, value}
 use Rattle.meaning.proofs.Values.{typed-is, typed-of, then-is, means-small}
 use Rattle.meaning.proofs.Invariant.{Ends, Inv, inv-width, inv-step, inv-valid, Storable}
 use Rattle.meaning.proofs.Constants.{pattern, valued-same, signed-parts}
@@ -64,7 +64,7 @@ arithmetic-types a b t e =
 
 module _ {ρ : World} {g : List ℕ} (i : Inv ρ g) (n : ℕ) (l : n < countOf g) (v : ℕ) (e : value ρ g n ≡ some v) where
   pub value-small : v < size (typeAt g n)
-  value-small = means-small (ρ .env) (typeAt g n) (operationAt g n) (value ρ g) v (sym (inv-step i n l) ∙ e)
+  value-small = means-small (ρ .env) (typeAt g n) (operationAt g n) (operand ρ g) v (sym (inv-step i n l) ∙ e)
 
   pub value-pattern : v < 2 ^ 128
   value-pattern = pattern (typeAt g n) v (inv-width i n l) value-small
@@ -92,14 +92,14 @@ module _ (s : ScalarType) (x : ℕ) (a : Interval) (small : x < 2 ^ 128) (ends :
   own-in = subst (λ (z : ℤ). z ∈ a) own-integer h
 
   -- it lies below 2 ^ 127, so that every type reads it so
-  pub below-half : x < 2 ^ 127
+  below-half : x < 2 ^ 127
   below-half = by (a .high) (own-in .below) (ends .high)
     where
       by : (z : ℤ) → pos x ≤ℤ z → mag z < 2 ^ 127 → x < 2 ^ 127
       by (pos n) q r = lt-of-le-of-lt (let p : x ≤ n = omega (arith, le-parts q) in p) r
       by (negsuc n) q r = absurd (omega (arith, le-parts q))
 
-  pub any-integer : (t : ScalarType) → integerOf t x ≡ pos x
+  any-integer : (t : ScalarType) → integerOf t x ≡ pos x
   any-integer ty.Bool = refl
   any-integer (ty.Bits w) = refl
   any-integer ty.Integer = signed-low 128 x below-half
@@ -108,7 +108,7 @@ module _ (s : ScalarType) (x : ℕ) (a : Interval) (small : x < 2 ^ 128) (ends :
   any-within t = subst (λ (z : ℤ). z ∈ a) (sym (any-integer t)) own-in
 
   -- inside Bits(w) it is below 2 ^ w
-  pub inside-small : (w : ℕ) → w ≤ 128 → insideBits w a ≡ true → x < 2 ^ w
+  inside-small : (w : ℕ) → w ≤ 128 → insideBits w a ≡ true → x < 2 ^ w
   inside-small w l e =
       ⊎-elim (λ q. let f : 128 ≡ w = (let p = leb-true 128 w q in omega arith) in subst (λ (k : ℕ). x < 2 ^ k) f small)
       (λ q. by (a .high) q (own-in .below))
@@ -124,23 +124,23 @@ pub fits-facts : (w : ℕ) (r : Option Interval) → fits w r ≡ true → (a : 
 fits-facts w none e = absurd (false≢true e)
 fits-facts w (some a) e = (a, refl, e)
 
-pub negative-facts : (r : Option Interval) → notNegative r ≡ true → (a : Interval) × (r ≡ some a) × (nonnegative a ≡ true)
+negative-facts : (r : Option Interval) → notNegative r ≡ true → (a : Interval) × (r ≡ some a) × (nonnegative a ≡ true)
 negative-facts none e = absurd (false≢true e)
 negative-facts (some a) e = (a, refl, e)
 
 -- ---- truncation
 
 -- a truncation, and then a value of Bits(w), is the value at Bits(w)
-pub truncate-valued : (w x : ℕ) → andThen (evaluateUnary (un.Truncate w) x) (valued (ty.Bits w)) ≡ valued (ty.Bits w) x
-unfolding evaluateUnary
+pub truncate-valued : (w x : ℕ) → andThen (unaryValue (un.Truncate w) x) (valued (ty.Bits w)) ≡ valued (ty.Bits w) x
+unfolding unaryValue
 truncate-valued w x = ap (ofType (ty.Bits w)) (mod-mod x (2 ^ w))
 
-pub truncate-covers : (w : ℕ) (a : Option ℕ) → Covers (andThen a (valued (ty.Bits w))) (unaryMeans (ty.Bits w) (un.Truncate w) a)
+truncate-covers : (w : ℕ) (a : Option ℕ) → Covers (andThen a (valued (ty.Bits w))) (unaryMeans (ty.Bits w) (un.Truncate w) a)
 truncate-covers w a x e = let p = then-is a (valued (ty.Bits w)) x e in rw (p .1) (truncate-valued w (p .0) ∙ p .2)
 
 pub covers-truncate : (w : ℕ) (a : Option ℕ) → Covers (unaryMeans (ty.Bits w) (un.Truncate w) a) (andThen a (valued (ty.Bits w)))
 covers-truncate w a x e =
-    let p = then-is a (λ v. andThen (evaluateUnary (un.Truncate w) v) (valued (ty.Bits w))) x e in
+    let p = then-is a (λ v. andThen (unaryValue (un.Truncate w) v) (valued (ty.Bits w))) x e in
     rw (p .1) (sym (truncate-valued w (p .0)) ∙ p .2)
 
 -- ---- identity
@@ -174,7 +174,7 @@ module _ {ρ : World} {g : List ℕ} (i : Inv ρ g) (v : ℕ) (l : v < countOf g
 
   module _ (t : ScalarType) (wide : typeWidth t ≤ 128) (a : Interval) (e : rangeAt g v ≡ some a) (up : nonnegative a ≡ true)
       (inside : insideType t a ≡ true) (small : ρ .sure → (x : ℕ) → value ρ g v ≡ some x → x < size t) where
-    pub refine-claim : Claim ρ g t (andThen (value ρ g v) (valued t)) (plan.add t (rangeAt g v) (node.refine v))
+    refine-claim : Claim ρ g t (andThen (value ρ g v) (valued t)) (plan.add t (rangeAt g v) (node.refine v))
     refine-claim = (
       refl,
       subst (λ (r : Option Interval). Storable ρ g t r (node.refine v)) (sym e)

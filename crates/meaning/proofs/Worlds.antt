@@ -5,7 +5,7 @@ use Prim.Native.Nat.{ℕ}
 use Rattle.range.specs.declared.ScalarType.{ScalarType}
 use Rattle.graph.specs.Node.{Op}
 use Rattle.meaning.specs.Value as spec
-use Rattle.meaning.specs.Value.{Env}
+use Rattle.meaning.specs.Value.{Env, Operand}
 
 -- an environment, and the proposition under which its values are as declared
 pub record World : Type 1 where
@@ -16,6 +16,10 @@ pub record World : Type 1 where
 abbrev pub value : World → List ℕ → ℕ → Option ℕ
 value ρ g n = spec.value (ρ .env) g n
 
--- an operation in a node of type t, its operands' values being given
-abbrev pub operationMeans : World → ScalarType → Op → (ℕ → Option ℕ) → Option ℕ
+-- node n as an operand
+abbrev pub operand : World → List ℕ → ℕ → Operand
+operand ρ g n = spec.operand (ρ .env) g n
+
+-- an operation in a node of type t, by what its operands' ids stand for
+abbrev pub operationMeans : World → ScalarType → Op → (ℕ → Operand) → Option ℕ
 operationMeans ρ t o look = spec.operationMeans (ρ .env) t o look

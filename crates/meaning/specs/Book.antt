@@ -1,56 +1,70 @@
 -- The plain book of demand 3, and lists of calls played from the empty graph. Document 01's 'The plain book of demand 3'.
-use mathlib.Core.Bool.{Bool, true, cond}
+use mathlib.Core.Bool.{Bool, true, cond, _&&_}
 use mathlib.Core.List.{List, [], _∷_, _++_}
 use mathlib.Core.Option.{Option, none, some}
 use mathlib.Core.Path.{_≡_}
 use Prim.Native.Nat.{ℕ, zero, suc, _-_, _%_, _^_, _<_}
 use lib.Dec.{eqb, leb}
 use lib.ListN.{getD, replicate}
-use Rattle.word.specs.Value.{signed}
-use Rattle.range.specs.Interval.{Interval, _∈_, both}
+use lib.IntN.{ℤ}
+use Rattle.word.specs.Value.{residue, signed}
+use Rattle.word.specs.Option.{fromBool, orElse}
+use Rattle.range.specs.Interval.{Interval, _∈_}
 use Rattle.range.specs.declared.ScalarType.{ScalarType}
 use Rattle.range.specs.declared.ScalarType.the-variants as ty
-use Rattle.evaluate.specs.Evaluate.{fromBool}
 use Rattle.graph.specs.Layout.{REGION, countOf}
 use Rattle.graph.specs.Node.{typeAt, rangeAt}
 use Rattle.native.specs.Call as calls
-use Rattle.native.specs.Call.{Response, Called, constantCall, inputCall, effectCall}
-use Rattle.native.specs.Request as request
+use Rattle.native.specs.Call.{Response, Called}
+use Rattle.native.specs.Request as asks
 use Rattle.native.specs.Request.{Request, requestCall}
-use Rattle.native.specs.Guard.{assumeCall}
 use Rattle.native.specs.Retain as retaining
 use Rattle.native.specs.Retain.{Outcome, Retention, retainCall}
-use Rattle.meaning.specs.Value.{Env, size, integerOf, ofType, valued, andThen, unaryMeans, binaryMeans, sliceMeans, concatMeans, value}
+use Rattle.meaning.specs.Value.{Env, size, integerOf, ofType, valued, andThen, Operand, unaryMeans, binaryMeans, sliceMeans, concatMeans, value}
 
 -- ---- the calls
 
--- a call of demand 3 with any arguments; a range has the patterns of its ends, a retain its keep list and the mapping lent
+-- a call of demand 3 with any arguments; a retain has its keep list and the mapping lent
 pub data Action : Type 0 where
-  constant : ScalarType → ℕ → Action
-  input : ℕ → ScalarType → Option (ℕ × ℕ) → Action
-  effect : ℕ → ScalarType → Action
-  builder : Request → Action
-  guard : ℕ → Bool → Action
+  request : Request → Action
   retain : List ℕ → List ℕ → Action
 
--- an argument is a 128-bit pattern
-abbrev pub pattern : ℕ → ℕ
-pattern n = n % 2 ^ 128
+-- the end of a range as the signed number of its 128-bit pattern
+abbrev pub signedEnd : ℤ → ℤ
+signedEnd z = signed 128 (residue 128 z)
 
--- the range handed in
-abbrev pub rangeOf : Option (ℕ × ℕ) → Option Interval
-rangeOf none = none
-rangeOf (some p) = some (record { low = signed 128 (pattern (p .0)); high = signed 128 (pattern (p .1)) })
+-- a range whose ends are 128-bit numbers
+abbrev pub signedEnds : Option Interval → Option Interval
+signedEnds none = none
+signedEnds (some a) = some (record { low = signedEnd (a .low); high = signedEnd (a .high) })
+
+-- a value handed in is a 128-bit pattern: a constant's, and the ends of an input's range
+abbrev pub patterned : Request → Request
+patterned (asks.constant t v) = asks.constant t (v % 2 ^ 128)
+patterned (asks.input i t r) = asks.input i t (signedEnds r)
+patterned (asks.effect i t) = asks.effect i t
+patterned (asks.unary t o v) = asks.unary t o v
+patterned (asks.binary t o l r) = asks.binary t o l r
+patterned (asks.slice v o w) = asks.slice v o w
+patterned (asks.concat h l v w) = asks.concat h l v w
+patterned (asks.unsignedRange v low high) = asks.unsignedRange v low high
+patterned (asks.guard n e) = asks.guard n e
+patterned (asks.unnamed ws is) = asks.unnamed ws is
 
 -- ---- the plain operations
 
--- of a builder, over what its ids stand for
-abbrev pub requestMeans : (ℕ → Option ℕ) → Request → Option ℕ
-requestMeans look (request.unary t o v) = unaryMeans t o (look v)
-requestMeans look (request.binary t o l r) = binaryMeans t o (look l) (look r)
-requestMeans look (request.slice v o w) = sliceMeans (ty.Bits w) o (look v)
-requestMeans look (request.concat h l v w) = concatMeans (ty.Bits w) v (look h) (look l)
-requestMeans look (request.unsignedRange v low high) = andThen (look v) (λ x. some (fromBool (both (leb low x) (leb x high))))
+-- of a request, over what its ids stand for; a guard and codes that name nothing have no value
+abbrev pub requestMeans : Env → (ℕ → Operand) → Request → Option ℕ
+requestMeans ρ look (asks.constant t v) = valued t v
+requestMeans ρ look (asks.input i t r) = ofType t (ρ .input i)
+requestMeans ρ look (asks.effect i t) = ofType t (ρ .effect i)
+requestMeans ρ look (asks.unary t o v) = unaryMeans t o (look v .val)
+requestMeans ρ look (asks.binary t o l r) = binaryMeans t o (look l .val) (look r .val)
+requestMeans ρ look (asks.slice v o w) = sliceMeans (ty.Bits w) o (look v .val)
+requestMeans ρ look (asks.concat h l v w) = concatMeans (ty.Bits w) v (look h .val) (look l .val)
+requestMeans ρ look (asks.unsignedRange v low high) = andThen (look v .val) (λ x. some (fromBool (leb low x && leb x high)))
+requestMeans ρ look (asks.guard n e) = none
+requestMeans ρ look (asks.unnamed ws is) = none
 
 -- ---- the book
 
@@ -70,26 +84,34 @@ pub record Book : Type 0 where
   pub lines : List Line
   pub conditions : List Condition
 
--- the first answer, or else the second
-abbrev pub orElse : Option ℕ → Option ℕ → Option ℕ
-orElse none b = b
-orElse (some v) b = some v
-
 -- the value of the first line that has this id and a value
 abbrev pub first : List Line → ℕ → Option ℕ
 first [] n = none
 first (l ∷ ls) n = cond (eqb (l .id) n) (orElse (l .val) (first ls n)) (first ls n)
 
--- an id handed in: without such a line its node's value in the graph that the call finds
-abbrev pub handed : Env → List ℕ → List Line → ℕ → Option ℕ
-handed ρ g ls n = orElse (first ls n) (value ρ g n)
+-- an id handed in: its node's type, and its line's value, without such a line its node's, in the graph that the call finds
+abbrev pub handed : Env → List ℕ → List Line → ℕ → Operand
+handed ρ g ls n = record { type = typeAt g n; val = orElse (first ls n) (value ρ g n) }
+
+-- the conditions that a request adds
+abbrev pub requestConditions : (ℕ → Operand) → Request → List Condition
+requestConditions look (asks.constant t v) = []
+requestConditions look (asks.input i t r) = inputIs i t r ∷ []
+requestConditions look (asks.effect i t) = effectIs i t ∷ []
+requestConditions look (asks.unary t o v) = []
+requestConditions look (asks.binary t o l r) = []
+requestConditions look (asks.slice v o w) = []
+requestConditions look (asks.concat h l v w) = []
+requestConditions look (asks.unsignedRange v low high) = []
+requestConditions look (asks.guard n e) = holds (look n .val) e ∷ []
+requestConditions look (asks.unnamed ws is) = []
 
 -- a call that returned an id adds a line and conditions, a guard that is done its condition; a call refused, or answered None, adds nothing
 abbrev pub adds : Response → Option ℕ → List Condition → Book → Book
 adds (calls.id n) v cs b = record { lines = b .lines ++ (record { id = n; val = v } ∷ []); conditions = cs ++ b .conditions }
 adds calls.nothing v cs b = b
 adds calls.done v cs b = record { lines = b .lines; conditions = cs ++ b .conditions }
-adds (calls.refused k) v cs b = b
+adds (calls.refused r) v cs b = b
 
 -- is node n kept? Its keep element is 1
 abbrev pub keeps : List ℕ → ℕ → Bool
@@ -114,7 +136,7 @@ renumbering next (k ∷ ks) = cond (eqb k 1) (next ∷ renumbering (suc next) ks
 -- a retain that isn't refused; conditions stay
 abbrev pub retains : Outcome → List ℕ → Book → Book
 retains (retaining.kept n) keep b = record { lines = struck keep (b .lines); conditions = b .conditions }
-retains (retaining.refused k) keep b = b
+retains (retaining.refused r) keep b = b
 
 -- ---- playing
 
@@ -123,7 +145,7 @@ pub record State : Type 0 where
   pub graph : List ℕ
   pub book : Book
 
--- what a builder's call leaves
+-- what a call leaves
 abbrev pub called : Called → Option ℕ → List Condition → Book → State
 called c v cs b = record { graph = c .words; book = adds (c .answer) v cs b }
 
@@ -131,14 +153,15 @@ called c v cs b = record { graph = c .words; book = adds (c .answer) v cs b }
 abbrev pub kept : Retention → List ℕ → Book → State
 kept r keep b = record { graph = r .words; book = retains (r .outcome) keep b }
 
+-- a request and what it leaves
+abbrev pub acted : Env → Request → State → State
+acted ρ q s =
+    called (requestCall (s .graph) q) (requestMeans ρ (handed ρ (s .graph) (s .book .lines)) q)
+    (requestConditions (handed ρ (s .graph) (s .book .lines)) q) (s .book)
+
 -- one call
 abbrev pub act : Env → Action → State → State
-act ρ (constant t v) s = called (constantCall (s .graph) t (pattern v)) (valued t (pattern v)) [] (s .book)
-act ρ (input n t r) s =
-    called (inputCall (s .graph) n t (rangeOf r)) (ofType t (ρ .input n)) (inputIs n t (rangeOf r) ∷ []) (s .book)
-act ρ (effect n t) s = called (effectCall (s .graph) n t) (ofType t (ρ .effect n)) (effectIs n t ∷ []) (s .book)
-act ρ (builder q) s = called (requestCall (s .graph) q) (requestMeans (handed ρ (s .graph) (s .book .lines)) q) [] (s .book)
-act ρ (guard n e) s = called (assumeCall (s .graph) n e) none (holds (handed ρ (s .graph) (s .book .lines) n) e ∷ []) (s .book)
+act ρ (request q) s = acted ρ (patterned q) s
 act ρ (retain keep mapping) s = kept (retainCall (s .graph) keep mapping) keep (s .book)
 
 -- a list of calls, the latest first, from the region of zeros

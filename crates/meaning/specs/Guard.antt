@@ -5,9 +5,9 @@ use mathlib.Core.Logic.{_↔_}
 use mathlib.Core.Option.{some}
 use mathlib.Core.Path.{_≡_}
 use Prim.Native.Nat.{ℕ}
+use Rattle.word.specs.Option.{fromBool}
 use Rattle.range.specs.Interval.{Interval, _∈_}
 use Rattle.range.specs.declared.ScalarType.the-variants as ty
-use Rattle.evaluate.specs.Evaluate.{fromBool}
 use Rattle.graph.specs.Node.{typeAt, rangeAt}
 use Rattle.guard.specs.Condition.{behind}
 use Rattle.guard.specs.Guard.{Guard, matched}

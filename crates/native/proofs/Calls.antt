@@ -1,79 +1,67 @@
--- What a call leaves: a leaf's builder changes no word where it answers no node. Assumes nothing.
+-- Answers as numbers: no two share one; and two words stored. Assumes nothing.
 use mathlib.Core.Path.{_≡_, refl, sym, ap, _∙_}
-use mathlib.Core.Bool.{Bool, true, false}
 use mathlib.Core.List.{List, [], _∷_}
-use mathlib.Core.Option.{Option, none, some}
 use Prim.Native.Nat.{ℕ, _-_, _^_, _<_}
 use native.Mathlib.Omega.{arith}
-use lib.Dec.{ltb}
-use lib.ListN.{length, set}
-use Rattle.range.specs.Interval.{Interval}
-use Rattle.range.specs.declared.ScalarType.{ScalarType}
-use Rattle.graph.specs.Insert.{Reply, Made, made, constant, input, effect, interned, appended, foundOr, inserted}
-use Rattle.graph.specs.Layout.{LIMIT, countOf}
-use Rattle.graph.specs.Node.{Op, wordsOf}
-use Rattle.native.specs.Call.{Response, called, settled, leaves, finished, id, nothing, done, refused, answerNumber}
+use lib.ListN.{length, getD, set}
+use Rattle.answer.specs.declared.Refusal.{Refusal}
+use Rattle.answer.specs.declared.Refusal.the-variants as no
+use Rattle.native.specs.Call.{Response, id, nothing, done, refused, answerNumber}
+use Rattle.answer.specs.Refusal.{refusalNumber}
 
--- the region after a refusal is the one before it
-abbrev Kept : List ℕ → Made → Type 0
-Kept g m = leaves g (m .answer) (m .words) ≡ m .words
+-- ---- answers as numbers
 
-appended-kept : (g ws : List ℕ) (t : Bool) → ltb (countOf g) LIMIT ≡ t → Kept g (appended g ws)
-unfolding appended
-appended-kept g ws true e = rw e
-appended-kept g ws false e = rw e
+-- the refusals by their numbers
+abbrev refusals : List Refusal
+refusals = no.Graph ∷ no.Graph ∷ no.Width ∷ no.Id ∷ no.Typing ∷ no.Value ∷ no.Keep ∷ no.Room ∷ no.Units ∷ []
 
-found-kept : (g : List ℕ) (o : Option ℕ) (m : Made) → Kept g m → Kept g (foundOr g o m)
-found-kept g none m k = k
-found-kept g (some n) m k = refl
+refusal-back : (r : Refusal) → getD refusals (refusalNumber r) no.Graph ≡ r
+refusal-back no.Graph = refl
+refusal-back no.Width = refl
+refusal-back no.Id = refl
+refusal-back no.Typing = refl
+refusal-back no.Value = refl
+refusal-back no.Keep = refl
+refusal-back no.Room = refl
+refusal-back no.Units = refl
 
-inserted-kept : (g : List ℕ) (t : ScalarType) (r : Option Interval) (o : Op) → Kept g (inserted g t r o)
-unfolding inserted
-inserted-kept g t r o = found-kept g (interned g o (wordsOf t r o)) (appended g (wordsOf t r o)) (appended-kept g (wordsOf t r o) (ltb (countOf g) LIMIT) refl)
+refusal-between : (r : Refusal) → (0 < refusalNumber r) × (refusalNumber r < 9)
+refusal-between no.Graph = (omega arith, omega arith)
+refusal-between no.Width = (omega arith, omega arith)
+refusal-between no.Id = (omega arith, omega arith)
+refusal-between no.Typing = (omega arith, omega arith)
+refusal-between no.Value = (omega arith, omega arith)
+refusal-between no.Keep = (omega arith, omega arith)
+refusal-between no.Room = (omega arith, omega arith)
+refusal-between no.Units = (omega arith, omega arith)
 
-pub constant-kept : (g : List ℕ) (t : ScalarType) (v : ℕ) → Kept g (constant g t v)
-unfolding constant
-constant-kept g t v = inserted-kept g t _ _
-
-pub input-kept : (g : List ℕ) (i : ℕ) (t : ScalarType) (r : Option Interval) → Kept g (input g i t r)
-unfolding input
-input-kept g i t r = inserted-kept g t _ _
-
-pub effect-kept : (g : List ℕ) (i : ℕ) (t : ScalarType) → Kept g (effect g i t)
-unfolding effect
-effect-kept g i t = inserted-kept g t _ _
-
--- a builder's answer and region, as the call's
-pub answers : (g h : List ℕ) (a : Response) (b : Reply) (m : Made) → a ≡ settled b → made b h ≡ m → Kept g m → called a h ≡ finished g m
-answers g h a b m e f k =
-    (λ i. called (e i) h) ∙ ap (λ (n : Made). called (settled (n .answer)) (n .words)) f ∙ (λ i. called (settled (m .answer)) (sym k i))
-
--- ---- answers as numbers: no two share one
-
--- an id below 2 ^ 63, and a refusal from 1 to 2 ^ 63 - 2
+-- an id is below 2 ^ 63
 abbrev pub Small : Response → Type 0
 Small (id n) = n < 2 ^ 63
 Small nothing = Unit {0}
 Small done = Unit {0}
-Small (refused k) = (0 < k) × (k < 2 ^ 63 - 1)
+Small (refused r) = Unit {0}
 
+-- no two answers share a number
 pub number-unique : (a b : Response) → Small a → Small b → answerNumber a ≡ answerNumber b → a ≡ b
 number-unique (id m) (id n) f g e = ap id e
 number-unique (id m) nothing f g e = absurd (omega (arith, f))
 number-unique (id m) done f g e = absurd (omega (arith, f))
-number-unique (id m) (refused k) f g e = absurd (omega (arith, f, g))
+number-unique (id m) (refused s) f g e = absurd (omega (arith, f, refusal-between s .1))
 number-unique nothing (id n) f g e = absurd (omega (arith, g))
 number-unique nothing nothing f g e = refl
 number-unique nothing done f g e = absurd (omega arith)
-number-unique nothing (refused k) f g e = absurd (omega (arith, g))
+number-unique nothing (refused s) f g e = absurd (omega (arith, refusal-between s .0, refusal-between s .1))
 number-unique done (id n) f g e = absurd (omega (arith, g))
 number-unique done nothing f g e = absurd (omega arith)
 number-unique done done f g e = refl
-number-unique done (refused k) f g e = absurd (omega (arith, g))
-number-unique (refused j) (id n) f g e = absurd (omega (arith, f, g))
-number-unique (refused j) nothing f g e = absurd (omega (arith, f))
-number-unique (refused j) done f g e = absurd (omega (arith, f))
-number-unique (refused j) (refused k) f g e = ap refused (omega (arith, f, g))
+number-unique done (refused s) f g e = absurd (omega (arith, refusal-between s .1))
+number-unique (refused r) (id n) f g e = absurd (omega (arith, g, refusal-between r .1))
+number-unique (refused r) nothing f g e = absurd (omega (arith, refusal-between r .0, refusal-between r .1))
+number-unique (refused r) done f g e = absurd (omega (arith, refusal-between r .1))
+number-unique (refused r) (refused s) f g e =
+    let q : refusalNumber r ≡ refusalNumber s = omega (arith, refusal-between r .1, refusal-between s .1) in
+    ap refused (sym (refusal-back r) ∙ ap (λ (k : ℕ). getD refusals k no.Graph) q ∙ refusal-back s)
 
 -- ---- two words stored
 

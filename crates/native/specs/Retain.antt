@@ -1,28 +1,30 @@
 -- The call of retain: question 6, the nodes left, and the region and the mapping after it.
 use mathlib.Core.Bool.{cond}
 use mathlib.Core.List.{List}
-use Prim.Native.Nat.{ℕ, _-_, _^_}
-use Rattle.evaluate.specs.Operator.{refusalNumber}
+use Prim.Native.Nat.{ℕ}
+use Rattle.answer.specs.declared.Refusal.{Refusal}
+use Rattle.answer.specs.declared.Refusal.the-variants as no
 use Rattle.graph.specs.Layout.{countOf}
 use Rattle.graph.specs.WellFormed.{isGraph}
-use Rattle.retain.specs.Retain.{isChoice, keptBelow, newIds, retained}
+use Rattle.retain.specs.Retain.{isKeepList, keptBelow, newIds, retained}
+use Rattle.native.specs.Call.{refusedAs}
 use Rattle.native.specs.declared.Retained.{Retained}
 use Rattle.native.specs.declared.Retained.the-variants as answer
 
--- the number of nodes left, or a refusal by its number
+-- the number of nodes left, or a refusal
 pub data Outcome : Type 0 where
   kept : ℕ → Outcome
-  refused : ℕ → Outcome
+  refused : Refusal → Outcome
 
 -- what a Retained stands for
 abbrev pub outcomeOf : Retained → Outcome
 outcomeOf (answer.Kept n) = kept n
-outcomeOf (answer.Refused r) = refused (refusalNumber r)
+outcomeOf (answer.Refused r) = refused r
 
 -- an outcome as one number
 abbrev pub outcomeNumber : Outcome → ℕ
 outcomeNumber (kept n) = n
-outcomeNumber (refused k) = 2 ^ 64 - 1 - k
+outcomeNumber (refused r) = refusedAs r
 
 -- an outcome, and the words of the region and the mapping after the call
 pub record Retention : Type 0 where
@@ -37,9 +39,9 @@ retention o g mapping = record { outcome = o; words = g; mapping = mapping }
 -- retain on a graph: question 6, then the work
 unfoldable pub retainInGraph : List ℕ → List ℕ → List ℕ → Retention
 retainInGraph g keep mapping =
-    cond (isChoice g keep mapping) (retention (kept (keptBelow keep (countOf g))) (retained g keep) (newIds keep (countOf g)))
-    (retention (refused 6) g mapping)
+    cond (isKeepList g keep mapping) (retention (kept (keptBelow keep (countOf g))) (retained g keep) (newIds keep (countOf g)))
+    (retention (refused no.Keep) g mapping)
 
 -- retain: question 1 first
 unfoldable pub retainCall : List ℕ → List ℕ → List ℕ → Retention
-retainCall g keep mapping = cond (isGraph g) (retainInGraph g keep mapping) (retention (refused 1) g mapping)
+retainCall g keep mapping = cond (isGraph g) (retainInGraph g keep mapping) (retention (refused no.Graph) g mapping)

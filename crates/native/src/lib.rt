@@ -1,17 +1,15 @@
 // The calls: every question in order, then the work. A refusal leaves every lent word as it was.
-pub mod declare;
-pub mod guards;
-pub mod keep;
-pub mod look;
-pub mod operate;
+pub mod by_name;
+pub mod perform;
+pub mod reading;
+pub mod request;
+pub mod retain_nodes;
 pub mod typing;
 
 ghost use mathlib.Core.Path.{_≡_};
-ghost use Rattle.graph.specs.Insert.{builtOf};
-ghost use Rattle.native.specs.Call.{answerOf, settled, answerNumber};
+ghost use Rattle.native.specs.Call.{answerOf, answerNumber, refusedAs};
 ghost use Rattle.native.specs.Retain.{outcomeOf, outcomeNumber};
-use evaluate::Refusal;
-use graph::Built;
+use answer::Refusal;
 use graph::NodeId;
 use guard::Guard;
 
@@ -39,8 +37,15 @@ pub enum Retained {
     Refused(Refusal),
 }
 
+// A refusal as an answer's number: they count down from None's.
+pub fn refused_as(refusal: Refusal) -> u64
+    ensures { λ r. ⌜ r ≡ refusedAs refusal ⌝ }
+{
+    u64::MAX - refusal.number()
+}
+
 impl Answer {
-    // The answer as one number: an id is itself, Done 2^63; None and the refusals count down from the largest.
+    // The answer as one number: an id is itself, Done 2^63, None the largest.
     pub fn number(self) -> u64
         ensures { λ r. ⌜ r ≡ answerNumber (answerOf self) ⌝ }
     {
@@ -48,31 +53,19 @@ impl Answer {
             Answer::Id(id) => id.0,
             Answer::None => u64::MAX,
             Answer::Done => DONE,
-            Answer::Refused(refusal) => u64::MAX - refusal.number(),
+            Answer::Refused(refusal) => refused_as(refusal),
         }
     }
 }
 
 impl Retained {
-    // The outcome as one number: the refusals count down from the largest.
+    // The outcome as one number.
     pub fn number(self) -> u64
         ensures { λ r. ⌜ r ≡ outcomeNumber (outcomeOf self) ⌝ }
     {
         match self {
             Retained::Kept(nodes) => nodes,
-            Retained::Refused(refusal) => u64::MAX - refusal.number(),
+            Retained::Refused(refusal) => refused_as(refusal),
         }
-    }
-}
-
-// What a builder's answer is to a caller.
-pub(crate) fn answer_to(built: Built) -> Answer
-    ensures { λ r. ⌜ answerOf r ≡ settled (builtOf built) ⌝ }
-{
-    match built {
-        Built::Id(id) => Answer::Id(id),
-        Built::None => Answer::None,
-        Built::Room => Answer::Refused(Refusal::Room),
-        Built::Units => Answer::Refused(Refusal::Units),
     }
 }

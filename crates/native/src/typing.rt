@@ -1,7 +1,9 @@
 // Question 4: does the typing table hold?
+ghost use mathlib.Core.Bool.{_&&_};
 ghost use mathlib.Core.Path.{_≡_};
+ghost use Rattle.fold.specs.Shape.{sameType};
 ghost use Rattle.evaluate.specs.declared.Unary.the-variants as un;
-ghost use Rattle.native.specs.Typing.{isNumber, isBits, isExtension, unaryTyped, sameTypes, arithmetic, shift, comparison, binaryTyped, concatTyped};
+ghost use Rattle.native.specs.Typing.{isNumber, isBits, isExtension, unaryTyped, arithmetic, shift, binaryTyped, concatTyped};
 use evaluate::Binary;
 use evaluate::Unary;
 use fold::operator;
@@ -40,21 +42,12 @@ fn is_extension(ty: ScalarType, width: u16) -> bool
     }
 }
 
-fn is_bool_to_bool(from: ScalarType, to: ScalarType) -> bool
-    ensures { λ r. ⌜ r ≡ unaryTyped un.BoolNot from to ⌝ }
+// Are two types these?
+fn are_types(a: ScalarType, first: ScalarType, b: ScalarType, second: ScalarType) -> bool
+    ensures { λ r. ⌜ r ≡ (sameType a first && sameType b second) ⌝ }
 {
-    if same_type(from, ScalarType::Bool) {
-        same_type(to, ScalarType::Bool)
-    } else {
-        false
-    }
-}
-
-fn is_integer_to_integer(from: ScalarType, to: ScalarType) -> bool
-    ensures { λ r. ⌜ r ≡ unaryTyped un.Negate from to ⌝ }
-{
-    if same_type(from, ScalarType::Integer) {
-        same_type(to, ScalarType::Integer)
+    if same_type(a, first) {
+        same_type(b, second)
     } else {
         false
     }
@@ -94,9 +87,9 @@ pub(crate) fn is_unary_typed(op: Unary, from: ScalarType, to: ScalarType) -> boo
     ensures { λ r. ⌜ r ≡ unaryTyped op from to ⌝ }
 {
     match op {
-        Unary::BoolNot => is_bool_to_bool(from, to),
+        Unary::BoolNot => are_types(from, ScalarType::Bool, to, ScalarType::Bool),
         Unary::BitNot => is_bits_to_same(from, to),
-        Unary::Negate => is_integer_to_integer(from, to),
+        Unary::Negate => are_types(from, ScalarType::Integer, to, ScalarType::Integer),
         Unary::Truncate(width) => same_type(to, ScalarType::Bits(width)),
         Unary::SignExtend(width) => is_extended(width, from, to),
         Unary::LeadingZeros(width) => is_counted(width, from, to),
@@ -104,21 +97,11 @@ pub(crate) fn is_unary_typed(op: Unary, from: ScalarType, to: ScalarType) -> boo
     }
 }
 
-fn are_same(a: ScalarType, b: ScalarType, to: ScalarType) -> bool
-    ensures { λ r. ⌜ r ≡ sameTypes a b to ⌝ }
-{
-    if same_type(a, to) {
-        same_type(b, to)
-    } else {
-        false
-    }
-}
-
 fn is_arithmetic(a: ScalarType, b: ScalarType, to: ScalarType) -> bool
     ensures { λ r. ⌜ r ≡ arithmetic a b to ⌝ }
 {
     if is_number(to) {
-        are_same(a, b, to)
+        are_types(a, to, b, to)
     } else {
         false
     }
@@ -138,27 +121,17 @@ fn is_shift(a: ScalarType, b: ScalarType, to: ScalarType) -> bool
     }
 }
 
-fn is_comparison(a: ScalarType, b: ScalarType, to: ScalarType) -> bool
-    ensures { λ r. ⌜ r ≡ comparison a b to ⌝ }
-{
-    if same_type(to, ScalarType::Bool) {
-        same_type(a, b)
-    } else {
-        false
-    }
-}
-
 pub(crate) fn is_binary_typed(op: Binary, a: ScalarType, b: ScalarType, to: ScalarType) -> bool
     ensures { λ r. ⌜ r ≡ binaryTyped op a b to ⌝ }
 {
     if is_bitwise(op) {
-        return are_same(a, b, to);
+        return are_types(a, to, b, to);
     }
     if operator::is_shift(op) {
         return is_shift(a, b, to);
     }
     if operator::is_comparison(op) {
-        return is_comparison(a, b, to);
+        return are_types(to, ScalarType::Bool, a, b);
     }
     is_arithmetic(a, b, to)
 }
@@ -169,9 +142,10 @@ pub(crate) fn is_concat_typed(high: ScalarType, low: ScalarType, low_width: u16,
     if width < low_width {
         return false;
     }
-    if same_type(high, ScalarType::Bits(width - low_width)) {
-        same_type(low, ScalarType::Bits(low_width))
-    } else {
-        false
-    }
+    are_types(
+        high,
+        ScalarType::Bits(width - low_width),
+        low,
+        ScalarType::Bits(low_width),
+    )
 }

@@ -8,20 +8,26 @@ use crate::region::zero;
 use crate::retains::MaybeReply;
 use crate::retains::retained;
 use evaluate::Evaluated;
+use evaluate::code::BITS;
+use evaluate::code::BOOL;
+use evaluate::code::INTEGER;
+use evaluate::code::binary_of;
+use evaluate::code::unary_of;
 use graph::EffectId;
 use graph::InputId;
 use graph::NodeId;
-use graph::read::binary_of;
-use graph::read::unary_of;
+use graph::layout::REGION;
 use graph::well_formed::is_graph;
 use native::Answer;
-use native::declare;
-use native::look;
-use native::operate;
+use native::by_name;
+use native::reading;
 use range::MaybeRange;
 use range::Range;
 use range::ScalarType;
 use word::Word;
+
+// The last word from which four can be asked for.
+const LAST: u64 = (REGION - 3) as u64;
 
 // A type by its code, if there is one.
 enum MaybeType {
@@ -52,9 +58,9 @@ pub(crate) enum Outcome {
 
 fn type_of(code: u64, width: u16) -> MaybeType {
     match code {
-        0 => MaybeType::Some(ScalarType::Bool),
-        1 => MaybeType::Some(ScalarType::Bits(width)),
-        2 => MaybeType::Some(ScalarType::Integer),
+        BOOL => MaybeType::Some(ScalarType::Bool),
+        BITS => MaybeType::Some(ScalarType::Bits(width)),
+        INTEGER => MaybeType::Some(ScalarType::Integer),
         _ => MaybeType::None,
     }
 }
@@ -99,12 +105,12 @@ fn declared(g: &mut [u64], call: Fields) -> Outcome {
     let kind = call.kind;
     let number = call.number;
     let reply = match kind {
-        1 => of_answer(declare::constant(g, ty, call.a)),
+        1 => of_answer(by_name::constant(g, ty, call.a)),
         2 => {
             let range = range_of(call.flag, call.a, call.b);
-            of_answer(declare::input(g, InputId(number), ty, range))
+            of_answer(by_name::input(g, InputId(number), ty, range))
         }
-        _ => of_answer(declare::effect(g, EffectId(number), ty)),
+        _ => of_answer(by_name::effect(g, EffectId(number), ty)),
     };
     Outcome::Answered(reply)
 }
@@ -121,11 +127,11 @@ fn operated(g: &mut [u64], call: Fields) -> Outcome {
     let reply = match kind {
         4 => {
             let op = unary_of(call.flag, (a.lo % 65536) as u16);
-            of_answer(operate::unary(g, ty, op, id))
+            of_answer(by_name::unary(g, ty, op, id))
         }
         _ => {
             let op = binary_of(call.flag);
-            of_answer(operate::binary(g, ty, op, id, NodeId(a.lo)))
+            of_answer(by_name::binary(g, ty, op, id, NodeId(a.lo)))
         }
     };
     Outcome::Answered(reply)
@@ -139,9 +145,9 @@ fn parted(g: &mut [u64], call: Fields) -> Outcome {
     let width = call.width;
     let kind = call.kind;
     let reply = match kind {
-        6 => of_answer(operate::slice(g, id, (a.lo % 65536) as u16, width)),
-        7 => of_answer(operate::concat(g, id, NodeId(a.lo), (b.lo % 65536) as u16, width)),
-        _ => of_answer(operate::unsigned_range(g, id, a, b)),
+        6 => of_answer(by_name::slice(g, id, (a.lo % 65536) as u16, width)),
+        7 => of_answer(by_name::concat(g, id, NodeId(a.lo), (b.lo % 65536) as u16, width)),
+        _ => of_answer(by_name::unsigned_range(g, id, a, b)),
     };
     Outcome::Answered(reply)
 }
@@ -157,8 +163,8 @@ fn kept(words: &mut [u64], call: Fields) -> Outcome {
 // The calls that read.
 fn looked(g: &[u64], kind: u64, id: u64) -> Outcome {
     let reply = match kind {
-        11 => of_evaluated(look::literal(g, NodeId(id))),
-        12 => of_answer(look::resolve(g, NodeId(id))),
+        11 => of_evaluated(reading::literal(g, NodeId(id))),
+        12 => of_answer(reading::resolve(g, NodeId(id))),
         _ => of_bool(is_graph(g)),
     };
     Outcome::Answered(reply)
@@ -180,14 +186,14 @@ fn handled(words: &mut [u64], call: Fields) -> Outcome {
                 Outcome::Malformed
             }
         }
-        18 => four(words, at),
+        18 => words_from(words, at),
         _ => Outcome::Malformed,
     }
 }
 
 // Four words from `at` on.
-fn four(words: &[u64], at: u64) -> Outcome {
-    if 6142 < at {
+fn words_from(words: &[u64], at: u64) -> Outcome {
+    if LAST < at {
         return Outcome::Malformed;
     }
     let a = Word {

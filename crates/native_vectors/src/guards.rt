@@ -8,13 +8,13 @@ use crate::calls::Reply;
 use crate::calls::of_answer;
 use crate::calls::of_bool;
 use crate::lines::Fields;
+use evaluate::code::binary_of;
 use graph::NodeId;
-use graph::read::binary_of;
 use guard::Guard;
 use guard::Matched;
 use native::Guarded;
-use native::guards::assume_guard;
-use native::guards::guard;
+use native::by_name::assume_guard;
+use native::reading::guard;
 use word::Word;
 
 // One more than the largest id that a guard's word has room for.

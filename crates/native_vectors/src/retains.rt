@@ -5,7 +5,7 @@ use crate::lines::Fields;
 use crate::region::peek;
 use crate::region::put;
 use native::Retained;
-use native::keep::retain;
+use native::retain_nodes::retain;
 use word::Word;
 
 // The most elements of a keep list or a mapping.

@@ -7,7 +7,7 @@ use Prim.Native.Nat.{ℕ, zero, suc}
 use Rattle.range.specs.declared.ScalarType.{ScalarType}
 use Rattle.graph.specs.Node.{typeAt}
 use Rattle.fold.specs.Shape.{sameType, refinedAt}
-use Rattle.plan.specs.Single.{same, source, viewFrom}
+use Rattle.plan.specs.OneOperand.{same, source, viewFrom}
 
 module _ (g : List ℕ) (n : ℕ) where
   pub view-end : (t : ScalarType) (k : ℕ) → refinedAt g n ≡ none → viewFrom g t k n ≡ source n

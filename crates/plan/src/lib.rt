@@ -1,5 +1,5 @@
 // What a builder does next, read off the region, and the plans of identity, unary and modular. Nothing here writes.
-pub mod single;
+pub mod one_operand;
 
 use bitfield::Masked;
 use evaluate::Binary;

@@ -1,15 +1,16 @@
 -- The plan of binary: its decisions in the order of native.rs 323 to 611.
-use mathlib.Core.Bool.{Bool, cond, not}
+use mathlib.Core.Bool.{Bool, cond, not, _&&_, _||_}
 use mathlib.Core.List.{List}
 use mathlib.Core.Option.{Option, none, some}
 use Prim.Native.Nat.{ℕ, _+_, _-_}
 use lib.Bits.{bitAnd}
 use lib.Dec.{eqb, ltb, leb}
-use Rattle.word.specs.Value.{provided, only, isPowerOfTwo}
-use Rattle.range.specs.Interval.{Interval, both, one}
+use Rattle.word.specs.Value.{isPowerOfTwo}
+use Rattle.word.specs.Option.{only, provided, mapped, fromBool, given, isSome, bothGiven, orElse}
+use Rattle.range.specs.Interval.{Interval}
 use Rattle.range.specs.declared.ScalarType.{ScalarType}
 use Rattle.range.specs.declared.ScalarType.the-variants as ty
-use Rattle.evaluate.specs.Evaluate.{evaluateBinary, fromBool}
+use Rattle.evaluate.specs.Evaluate.{binaryValue}
 use Rattle.evaluate.specs.U128 as u128
 use Rattle.evaluate.specs.declared.Binary.{Binary}
 use Rattle.evaluate.specs.declared.Binary.the-variants as bi
@@ -17,9 +18,9 @@ use Rattle.graph.specs.Node as node
 use Rattle.graph.specs.Node.{typeAt, rangeAt}
 use Rattle.graph.specs.Insert.{literal}
 use Rattle.fold.specs.Operator.{commutative, shifts, equalities, zeroKeeps, zeroMakesZero, bitwise, keptTwice, zeroTwice, trueTwice, falseTwice}
-use Rattle.fold.specs.Shape.{given, sameType, narrowType, sameBinary, isAny, fits, mask, isSome, Chain, chainAt, origin}
-use Rattle.fold.specs.Range.{bothGiven, binaryRange, comparison}
-use Rattle.bitfield.specs.Bitfield.{maskedComparison}
+use Rattle.fold.specs.Shape.{sameType, narrowType, sameBinary, isAny, fits, mask, ByConstant, byConstantAt, origin}
+use Rattle.fold.specs.Range.{rangedAt, storedRange, comparison}
+use Rattle.bitfield.specs.Bitfield.{foldMaskedComparison}
 use Rattle.plan.specs.Plan as plan
 use Rattle.plan.specs.Plan.{Plan, First, does, tries, binaryRest, constantOr}
 
@@ -27,38 +28,36 @@ use Rattle.plan.specs.Plan.{Plan, First, does, tries, binaryRest, constantOr}
 
 -- a constant on the left alone goes to the right
 abbrev pub isSwapped : Binary → Option ℕ → Option ℕ → Bool
-isSwapped o a b = both (isSome a) (both (not (isSome b)) (isAny commutative o))
+isSwapped o a b = isSome a && (not (isSome b) && isAny commutative o)
 
 -- two constants are evaluated
 abbrev pub evaluated : ScalarType → Binary → Option ℕ → Option ℕ → Option Plan
-evaluated t o none b = none
-evaluated t o (some a) none = none
-evaluated t o (some a) (some b) = some (constantOr t (evaluateBinary o t a b))
+evaluated t o a b = bothGiven a b (λ x y. some (constantOr t (binaryValue o t x y)))
 
 -- ---- shifts by a constant (350 to 387)
 
 -- is the result 0? A shift right by the width is, if the operand has no bits from there on
 abbrev pub isShiftedOut : Binary → ℕ → ℕ → Bool → Bool
-isShiftedOut o w count narrow = one (leb 128 count) (both (leb w count) (one (sameBinary o bi.ShiftLeft) narrow))
+isShiftedOut o w count narrow = leb 128 count || (leb w count && (sameBinary o bi.ShiftLeft || narrow))
 
 -- right after left: the bits that stay, or these shifted left by the rest
-abbrev pub backShift : ℕ → ℕ → Chain → Plan
+abbrev pub backShift : ℕ → ℕ → ByConstant → Plan
 backShift w count c =
     cond (leb (c .value) count) (plan.sliceIdentity (c .base) (count - c .value) (w - count) (ty.Bits w))
     (plan.sliceShift (c .base) (w - c .value) (ty.Bits w) (c .value - count))
 
 -- a shift of a shift, both below the width
-abbrev pub shiftTwice : Binary → ℕ → ℕ → Chain → Option Plan
-shiftTwice o w count c =
-    provided (both (ltb (c .value) w) (both (ltb count w) (sameBinary (c .op) bi.ShiftLeft)))
+abbrev pub shiftOfShift : Binary → ℕ → ℕ → ByConstant → Option Plan
+shiftOfShift o w count c =
+    provided (ltb (c .value) w && (ltb count w && sameBinary (c .op) bi.ShiftLeft))
     (some (cond (sameBinary o bi.ShiftRight) (backShift w count c)
     (plan.constantBinary ty.Integer (c .value + count) (ty.Bits w) o (c .base))))
 
 -- a shift in Bits(w) by a constant
 abbrev pub shiftBy : List ℕ → Binary → ℕ → ℕ → ℕ → Option Plan
 shiftBy g o w left count =
-    cond (isShiftedOut o w count (one (narrowType (typeAt g left) w) (fits w (rangeAt g left)))) (some (plan.constant (ty.Bits w) 0))
-    (provided (sameType (typeAt g (origin g left)) (ty.Bits w)) (given (chainAt g (origin g left)) (shiftTwice o w count) none))
+    cond (isShiftedOut o w count (narrowType (typeAt g left) w || fits w (rangeAt g left))) (some (plan.constant (ty.Bits w) 0))
+    (provided (sameType (typeAt g (origin g left)) (ty.Bits w)) (given (byConstantAt g (origin g left)) (shiftOfShift o w count) none))
 
 -- what a shift by a constant comes to
 abbrev pub shiftPlan : List ℕ → ScalarType → Binary → ℕ → Option ℕ → Option Plan
@@ -77,14 +76,14 @@ offsetTarget o target offset =
     (only (sameBinary o bi.Add) (u128.wrapping-sub target offset))
 
 -- base + offset or base - offset compared with a constant of the width
-abbrev pub offsetCompared : ScalarType → Binary → ℕ → ℕ → Chain → Option Plan
+abbrev pub offsetCompared : ScalarType → Binary → ℕ → ℕ → ByConstant → Option Plan
 offsetCompared t o w target c =
     given (offsetTarget (c .op) target (c .value)) (λ v. some (plan.constantBinary (ty.Bits w) v t o (c .base))) none
 
 -- by the left operand's type
 abbrev pub offsetTyped : List ℕ → ScalarType → Binary → ℕ → ℕ → ScalarType → Option Plan
 offsetTyped g t o left target ty.Bool = none
-offsetTyped g t o left target (ty.Bits w) = provided (leb target (mask w)) (given (chainAt g left) (offsetCompared t o w target) none)
+offsetTyped g t o left target (ty.Bits w) = provided (leb target (mask w)) (given (byConstantAt g left) (offsetCompared t o w target) none)
 offsetTyped g t o left target ty.Integer = none
 
 -- a comparison of a sum with a constant is one of its base
@@ -96,8 +95,7 @@ offsetPlan g t o left b =
 
 -- true or false as a constant
 abbrev pub truthPlan : Option Bool → Option Plan
-truthPlan none = none
-truthPlan (some b) = some (plan.constant ty.Bool (fromBool b))
+truthPlan = mapped (λ b. plan.constant ty.Bool (fromBool b))
 
 -- both operands have a range
 abbrev pub comparedPlan : Binary → Option Interval → Option Interval → Option Plan
@@ -106,8 +104,8 @@ comparedPlan o r s = truthPlan (bothGiven r s (comparison o))
 -- ---- one node twice (442 to 454)
 
 -- x with itself
-abbrev pub twice : ScalarType → Binary → ℕ → Option Plan
-twice t o x =
+abbrev pub withItself : ScalarType → Binary → ℕ → Option Plan
+withItself t o x =
     cond (isAny keptTwice o) (some (plan.identity t x))
     (cond (isAny zeroTwice o) (some (plan.constant t 0))
     (cond (isAny trueTwice o) (some (plan.constant ty.Bool 1)) (only (isAny falseTwice o) (plan.constant ty.Bool 0))))
@@ -127,14 +125,9 @@ onesPlan (ty.Bits w) o left right b =
     (cond (sameBinary o bi.And) (some (plan.identity (ty.Bits w) left)) (only (sameBinary o bi.Or) (plan.constant (ty.Bits w) (mask w))))
 onesPlan ty.Integer o left right b = none
 
--- the first of two decisions
-abbrev pub orPlan : Option Plan → Option Plan → Option Plan
-orPlan none q = q
-orPlan (some p) q = some p
-
 -- a constant on the right
 abbrev pub rightPlan : ScalarType → Binary → ℕ → ℕ → ℕ → Option Plan
-rightPlan t o left right b = orPlan (provided (eqb b 0) (zeroPlan t o left)) (onesPlan t o left right b)
+rightPlan t o left right b = orElse (provided (eqb b 0) (zeroPlan t o left)) (onesPlan t o left right b)
 
 -- ---- masks of masks (492 to 506)
 
@@ -144,15 +137,15 @@ mergedPlan t o base none = plan.stop
 mergedPlan t o base (some v) = plan.constantBinary t v t o base
 
 -- an operation by a constant of an operation by a constant
-abbrev pub maskTwice : ScalarType → Binary → ℕ → ℕ → Chain → Option Plan
-maskTwice t o right b c =
-    cond (both (sameBinary (c .op) o) (isAny bitwise o)) (some (mergedPlan t o (c .base) (evaluateBinary o t (c .value) b)))
-    (only (both (sameBinary (c .op) bi.Or) (sameBinary o bi.And)) (plan.andOr t (c .base) right (bitAnd (c .value) b)))
+abbrev pub maskOfMask : ScalarType → Binary → ℕ → ℕ → ByConstant → Option Plan
+maskOfMask t o right b c =
+    cond (sameBinary (c .op) o && isAny bitwise o) (some (mergedPlan t o (c .base) (binaryValue o t (c .value) b)))
+    (only (sameBinary (c .op) bi.Or && sameBinary o bi.And) (plan.andOr t (c .base) right (bitAnd (c .value) b)))
 
 -- on Bits alone
 abbrev pub maskPlan : List ℕ → ScalarType → Binary → ℕ → ℕ → ℕ → Option Plan
 maskPlan g ty.Bool o left right b = none
-maskPlan g (ty.Bits w) o left right b = given (chainAt g left) (maskTwice (ty.Bits w) o right b) none
+maskPlan g (ty.Bits w) o left right b = given (byConstantAt g left) (maskOfMask (ty.Bits w) o right b) none
 maskPlan g ty.Integer o left right b = none
 
 -- ---- a node, or what comes after its range is known (507 to 610)
@@ -160,23 +153,22 @@ maskPlan g ty.Integer o left right b = none
 -- the remainder by a power of two is an And
 abbrev pub remainderPlan : ScalarType → Binary → ℕ → ℕ → Option Plan
 remainderPlan t o left b =
-    only (both (sameBinary o bi.RemainderUnsigned) (isPowerOfTwo b)) (plan.constantBinary t (b - 1) t bi.And left)
+    only (sameBinary o bi.RemainderUnsigned && isPowerOfTwo b) (plan.constantBinary t (b - 1) t bi.And left)
 
 -- Sub of Sub, if the sum of both constants is there
-abbrev pub lessMore : ScalarType → ℕ → Option ℕ → Option Plan
-lessMore t base none = none
-lessMore t base (some v) = some (plan.constantBinary t v t bi.Sub base)
+abbrev pub subOfSub : ScalarType → ℕ → Option ℕ → Option Plan
+subOfSub t base = mapped (λ v. plan.constantBinary t v t bi.Sub base)
 
 -- Add of Add, and Sub of Sub, by the sum of their constants
-abbrev pub sumTwice : ScalarType → Binary → ℕ → Chain → Option Plan
-sumTwice t o b c =
-    cond (both (sameBinary o bi.Add) (sameBinary (c .op) bi.Add))
-    (some (mergedPlan t bi.Add (c .base) (evaluateBinary bi.Add t (c .value) b)))
-    (provided (both (sameBinary o bi.Sub) (sameBinary (c .op) bi.Sub)) (lessMore t (c .base) (evaluateBinary bi.Add t (c .value) b)))
+abbrev pub sumOfSum : ScalarType → Binary → ℕ → ByConstant → Option Plan
+sumOfSum t o b c =
+    cond (sameBinary o bi.Add && sameBinary (c .op) bi.Add)
+    (some (mergedPlan t bi.Add (c .base) (binaryValue bi.Add t (c .value) b)))
+    (provided (sameBinary o bi.Sub && sameBinary (c .op) bi.Sub) (subOfSub t (c .base) (binaryValue bi.Add t (c .value) b)))
 
 -- a remainder or a sum by a constant
 abbrev pub sumPlan : List ℕ → ScalarType → Binary → ℕ → ℕ → Option Plan
-sumPlan g t o left b = orPlan (remainderPlan t o left b) (given (chainAt g left) (sumTwice t o b) none)
+sumPlan g t o left b = orElse (remainderPlan t o left b) (given (byConstantAt g left) (sumOfSum t o b) none)
 
 -- a node of this range, or None without one
 abbrev pub storePlan : ScalarType → Binary → ℕ → ℕ → Option Plan → Option (Option Interval) → Plan
@@ -187,33 +179,33 @@ storePlan t o left right p (some r) = given p (λ q. q) (plan.add t r (node.bina
 
 -- what a constant on the right decides before the range is known
 abbrev pub literalPlan : List ℕ → ScalarType → Binary → ℕ → ℕ → Option ℕ → Option Plan
-literalPlan g t o left right b = given b (λ v. orPlan (rightPlan t o left right v) (maskPlan g t o left right v)) none
+literalPlan g t o left right b = given b (λ v. orElse (rightPlan t o left right v) (maskPlan g t o left right v)) none
 
 -- the decisions before the range of the node is known
 abbrev pub decidedPlan : List ℕ → ScalarType → Binary → ℕ → ℕ → Option Plan
 decidedPlan g t o left right =
-    orPlan (offsetPlan g t o left (literal g right))
-    (orPlan (comparedPlan o (rangeAt g left) (rangeAt g right))
-    (orPlan (provided (eqb left right) (twice t o left)) (literalPlan g t o left right (literal g right))))
+    orElse (offsetPlan g t o left (literal g right))
+    (orElse (comparedPlan o (rangeAt g left) (rangeAt g right))
+    (orElse (provided (eqb left right) (withItself t o left)) (literalPlan g t o left right (literal g right))))
 
 -- the plan after the masked comparison
 unfoldable pub binaryPlan : List ℕ → ScalarType → Binary → ℕ → ℕ → Plan
 binaryPlan g t o left right =
     given (decidedPlan g t o left right) (λ p. p)
-    (storePlan t o left right (given (literal g right) (sumPlan g t o left) none) (binaryRange t o (rangeAt g left) (rangeAt g right)))
+    (storePlan t o left right (given (literal g right) (sumPlan g t o left) none) (storedRange t (node.binary o left right) (rangedAt g)))
 
 -- ---- binary whole
 
 -- Equal and NotEqual try the masked comparison first (388 to 392)
 abbrev pub equalityFirst : List ℕ → ScalarType → Binary → ℕ → ℕ → First
 equalityFirst g t o left right =
-    given (provided (isAny equalities o) (maskedComparison g o left right)) (λ m. tries (plan.masked m) (binaryRest t o left right))
+    given (provided (isAny equalities o) (foldMaskedComparison g o left right)) (λ m. tries (plan.masked m) (binaryRest t o left right))
     (does (binaryPlan g t o left right))
 
 -- constants, shifts by a constant, then the others
 abbrev pub openFirst : List ℕ → ScalarType → Binary → ℕ → ℕ → First
 openFirst g t o left right =
-    given (orPlan (evaluated t o (literal g left) (literal g right)) (shiftPlan g t o left (literal g right))) does
+    given (orElse (evaluated t o (literal g left) (literal g right)) (shiftPlan g t o left (literal g right))) does
     (equalityFirst g t o left right)
 
 -- the first plan of binary

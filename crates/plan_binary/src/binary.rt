@@ -2,22 +2,22 @@
 ghost use mathlib.Core.Path.{_≡_};
 ghost use lib.ListN.{length};
 ghost use Rattle.range.specs.Interval.{intervalOf};
-ghost use Rattle.word.specs.Value.{numberOf, provided};
+ghost use Rattle.word.specs.Value.{numberOf};
+ghost use Rattle.word.specs.Option.{provided, fromBool};
 ghost use lib.Dec.{eqb};
 ghost use mathlib.Core.Option.{some};
 ghost use Rattle.range.specs.declared.ScalarType.the-variants as type;
-ghost use Rattle.evaluate.specs.Evaluate.{fromBool};
 ghost use Rattle.plan.specs.Plan as plan;
 ghost use Rattle.graph.specs.Layout.{REGION};
 ghost use Rattle.plan.specs.Plan.{planOf, decidedOf, firstOf};
 ghost use Rattle.fold.specs.Range.{derivedOf};
-ghost use Rattle.plan_binary.specs.Binary.{isSwapped, evaluated, comparedPlan, twice, decidedPlan, storePlan, binaryPlan, equalityFirst, openFirst, binaryFirst};
+ghost use Rattle.plan_binary.specs.Binary.{isSwapped, evaluated, comparedPlan, withItself, decidedPlan, storePlan, binaryPlan, equalityFirst, openFirst, binaryFirst};
 use crate::constant_right::literal_plan;
 use crate::constant_right::offset_plan;
 use crate::constant_right::sum_plan;
 use crate::shift::shift_plan;
 use bitfield::MaybeMasked;
-use bitfield::equality::masked_comparison;
+use bitfield::equality::fold_masked_comparison;
 use evaluate::Binary;
 use evaluate::pattern::from_bool;
 use evaluate::two_operands::binary_value;
@@ -41,7 +41,7 @@ use plan::First;
 use plan::MaybePlan;
 use plan::Plan;
 use plan::Rest;
-use plan::single::constant_or_none;
+use plan::one_operand::constant_or_none;
 use range::MaybeRange;
 use range::ScalarType;
 use word::MaybeWord;
@@ -94,8 +94,8 @@ fn zero(ty: ScalarType) -> MaybePlan
 }
 
 // One node with itself.
-fn twice(ty: ScalarType, op: Binary, id: NodeId) -> MaybePlan
-    ensures { λ r. ⌜ decidedOf r ≡ twice ty op (id .0) ⌝ }
+fn with_itself(ty: ScalarType, op: Binary, id: NodeId) -> MaybePlan
+    ensures { λ r. ⌜ decidedOf r ≡ withItself ty op (id .0) ⌝ }
 {
     if is_kept_twice(op) {
         return MaybePlan::Some(Plan::Identity(ty, id));
@@ -112,11 +112,11 @@ fn twice(ty: ScalarType, op: Binary, id: NodeId) -> MaybePlan
     MaybePlan::None
 }
 
-fn twice_plan(ty: ScalarType, op: Binary, left: NodeId, right: NodeId) -> MaybePlan
-    ensures { λ r. ⌜ decidedOf r ≡ provided (eqb (left .0) (right .0)) (twice ty op (left .0)) ⌝ }
+fn with_itself_plan(ty: ScalarType, op: Binary, left: NodeId, right: NodeId) -> MaybePlan
+    ensures { λ r. ⌜ decidedOf r ≡ provided (eqb (left .0) (right .0)) (withItself ty op (left .0)) ⌝ }
 {
     if left.0 == right.0 {
-        twice(ty, op, left)
+        with_itself(ty, op, left)
     } else {
         MaybePlan::None
     }
@@ -136,7 +136,7 @@ fn decided_plan(g: &[u64], ty: ScalarType, op: Binary, left: NodeId, right: Node
     let MaybePlan::None = ranges else {
         return ranges;
     };
-    let same = twice_plan(ty, op, left, right);
+    let same = with_itself_plan(ty, op, left, right);
     let MaybePlan::None = same else {
         return same;
     };
@@ -185,7 +185,7 @@ fn equality_first(g: &[u64], ty: ScalarType, op: Binary, left: NodeId, right: No
     if !is_equality(op) {
         return First::Do(binary_plan(g, ty, op, left, right));
     }
-    let comparison = masked_comparison(g, op, left, right);
+    let comparison = fold_masked_comparison(g, op, left, right);
     match comparison {
         MaybeMasked::Some(masked) => First::Try(
             Attempt::Masked(masked),

@@ -2,23 +2,24 @@
 ghost use mathlib.Core.Path.{_≡_};
 ghost use lib.ListN.{length};
 ghost use Rattle.word.specs.Value.{val, numberOf};
+ghost use Rattle.word.specs.Option.{given, orElse};
 ghost use Rattle.graph.specs.Layout.{REGION};
 ghost use mathlib.Core.Option.{none};
 ghost use Rattle.range.specs.declared.ScalarType.the-variants as type;
 ghost use Rattle.graph.specs.Node.{typeAt};
-ghost use Rattle.fold.specs.Shape.{given, oneChainOf};
+ghost use Rattle.fold.specs.Shape.{oneByConstantOf};
 ghost use Rattle.plan.specs.Plan.{planOf, decidedOf};
-ghost use Rattle.plan_binary.specs.Binary.{zeroPlan, onesPlan, orPlan, rightPlan, mergedPlan, maskTwice, maskPlan, literalPlan, remainderPlan, lessMore, sumTwice, sumPlan, offsetTarget, offsetCompared, offsetTyped, offsetPlan};
+ghost use Rattle.plan_binary.specs.Binary.{zeroPlan, onesPlan, rightPlan, mergedPlan, maskOfMask, maskPlan, literalPlan, remainderPlan, subOfSub, sumOfSum, sumPlan, offsetTarget, offsetCompared, offsetTyped, offsetPlan};
 use evaluate::Binary;
 use evaluate::two_operands::binary_value;
-use fold::Chain;
-use fold::MaybeChain;
+use fold::ByConstant;
+use fold::MaybeByConstant;
 use fold::operator::is_bitwise;
 use fold::operator::is_equality;
 use fold::operator::is_kept_by_zero;
 use fold::operator::is_zero_by_zero;
 use fold::operator::same_binary;
-use fold::shape::chain_at;
+use fold::shape::by_constant_at;
 use graph::NodeId;
 use graph::read::type_at;
 use plan::MaybePlan;
@@ -30,7 +31,7 @@ use word::Word;
 
 // The first of two decisions.
 pub(crate) fn or_plan(first: MaybePlan, second: MaybePlan) -> MaybePlan
-    ensures { λ r. ⌜ decidedOf r ≡ orPlan (decidedOf first) (decidedOf second) ⌝ }
+    ensures { λ r. ⌜ decidedOf r ≡ orElse (decidedOf first) (decidedOf second) ⌝ }
 {
     let MaybePlan::None = first else {
         return first;
@@ -113,12 +114,18 @@ fn merged_plan(ty: ScalarType, op: Binary, base: NodeId, value: MaybeWord) -> Pl
 }
 
 // An operation by a constant of an operation by a constant.
-fn mask_twice(ty: ScalarType, op: Binary, right: NodeId, value: Word, chain: Chain) -> MaybePlan
-    ensures { λ r. ⌜ decidedOf r ≡ maskTwice ty op (right .0) (val value) (oneChainOf chain) ⌝ }
+fn mask_of_mask(
+    ty: ScalarType,
+    op: Binary,
+    right: NodeId,
+    value: Word,
+    shape: ByConstant,
+) -> MaybePlan
+    ensures { λ r. ⌜ decidedOf r ≡ maskOfMask ty op (right .0) (val value) (oneByConstantOf shape) ⌝ }
 {
-    let inner = chain.op;
-    let base = chain.base;
-    let first = chain.value;
+    let inner = shape.op;
+    let base = shape.base;
+    let first = shape.value;
     if same_binary(inner, op) && is_bitwise(op) {
         let both = binary_value(op, ty, first, value);
         return MaybePlan::Some(merged_plan(ty, op, base, both));
@@ -140,10 +147,16 @@ fn bits_masks(
     requires { ⌜ length (now g) ≡ REGION ⌝ }
     ensures { λ r. ⌜ decidedOf r ≡ maskPlan (now (g .entry)) (type.Bits width) op (left .0) (right .0) (val value) ⌝ }
 {
-    let inner = chain_at(g, left);
+    let inner = by_constant_at(g, left);
     match inner {
-        MaybeChain::Some(chain) => mask_twice(ScalarType::Bits(width), op, right, value, chain),
-        MaybeChain::None => MaybePlan::None,
+        MaybeByConstant::Some(shape) => mask_of_mask(
+            ScalarType::Bits(width),
+            op,
+            right,
+            value,
+            shape,
+        ),
+        MaybeByConstant::None => MaybePlan::None,
     }
 }
 
@@ -199,8 +212,8 @@ fn remainder_plan(ty: ScalarType, op: Binary, left: NodeId, value: Word) -> Mayb
 }
 
 // Sub of Sub, if the sum of both constants is there.
-fn less_more(ty: ScalarType, base: NodeId, sum: MaybeWord) -> MaybePlan
-    ensures { λ r. ⌜ decidedOf r ≡ lessMore ty (base .0) (numberOf sum) ⌝ }
+fn sub_of_sub(ty: ScalarType, base: NodeId, sum: MaybeWord) -> MaybePlan
+    ensures { λ r. ⌜ decidedOf r ≡ subOfSub ty (base .0) (numberOf sum) ⌝ }
 {
     match sum {
         MaybeWord::Some(value) => {
@@ -211,17 +224,17 @@ fn less_more(ty: ScalarType, base: NodeId, sum: MaybeWord) -> MaybePlan
 }
 
 // Add of Add, and Sub of Sub, by the sum of their constants.
-fn sum_twice(ty: ScalarType, op: Binary, value: Word, chain: Chain) -> MaybePlan
-    ensures { λ r. ⌜ decidedOf r ≡ sumTwice ty op (val value) (oneChainOf chain) ⌝ }
+fn sum_of_sum(ty: ScalarType, op: Binary, value: Word, shape: ByConstant) -> MaybePlan
+    ensures { λ r. ⌜ decidedOf r ≡ sumOfSum ty op (val value) (oneByConstantOf shape) ⌝ }
 {
-    let inner = chain.op;
-    let base = chain.base;
-    let sum = binary_value(Binary::Add, ty, chain.value, value);
+    let inner = shape.op;
+    let base = shape.base;
+    let sum = binary_value(Binary::Add, ty, shape.value, value);
     if same_binary(op, Binary::Add) && same_binary(inner, Binary::Add) {
         return MaybePlan::Some(merged_plan(ty, Binary::Add, base, sum));
     }
     if same_binary(op, Binary::Sub) && same_binary(inner, Binary::Sub) {
-        return less_more(ty, base, sum);
+        return sub_of_sub(ty, base, sum);
     }
     MaybePlan::None
 }
@@ -234,10 +247,10 @@ fn sum_of_constant(g: &[u64], ty: ScalarType, op: Binary, left: NodeId, value: W
     if let MaybePlan::Some(plan) = remainder {
         return MaybePlan::Some(plan);
     }
-    let inner = chain_at(g, left);
+    let inner = by_constant_at(g, left);
     match inner {
-        MaybeChain::Some(chain) => sum_twice(ty, op, value, chain),
-        MaybeChain::None => MaybePlan::None,
+        MaybeByConstant::Some(shape) => sum_of_sum(ty, op, value, shape),
+        MaybeByConstant::None => MaybePlan::None,
     }
 }
 
@@ -271,12 +284,18 @@ fn offset_target(op: Binary, target: Word, offset: Word) -> MaybeWord
     MaybeWord::None
 }
 
-fn offset_compared(ty: ScalarType, op: Binary, width: u16, target: Word, chain: Chain) -> MaybePlan
-    ensures { λ r. ⌜ decidedOf r ≡ offsetCompared ty op width (val target) (oneChainOf chain) ⌝ }
+fn offset_compared(
+    ty: ScalarType,
+    op: Binary,
+    width: u16,
+    target: Word,
+    shape: ByConstant,
+) -> MaybePlan
+    ensures { λ r. ⌜ decidedOf r ≡ offsetCompared ty op width (val target) (oneByConstantOf shape) ⌝ }
 {
-    let inner = chain.op;
-    let base = chain.base;
-    let other = offset_target(inner, target, chain.value);
+    let inner = shape.op;
+    let base = shape.base;
+    let other = offset_target(inner, target, shape.value);
     let MaybeWord::Some(value) = other else {
         return MaybePlan::None;
     };
@@ -298,10 +317,10 @@ fn offset_bits(
     if !target.le(mask(width)) {
         return MaybePlan::None;
     }
-    let inner = chain_at(g, left);
+    let inner = by_constant_at(g, left);
     match inner {
-        MaybeChain::Some(chain) => offset_compared(ty, op, width, target, chain),
-        MaybeChain::None => MaybePlan::None,
+        MaybeByConstant::Some(shape) => offset_compared(ty, op, width, target, shape),
+        MaybeByConstant::None => MaybePlan::None,
     }
 }
 

@@ -5,15 +5,15 @@ ghost use Prim.Native.Nat.{_<_};
 ghost use Rattle.word.specs.Value.{val, numberOf};
 ghost use Rattle.graph.specs.Layout.{REGION};
 ghost use Rattle.range.specs.declared.ScalarType.the-variants as ty;
-ghost use Rattle.fold.specs.Shape.{oneChainOf};
+ghost use Rattle.fold.specs.Shape.{oneByConstantOf};
 ghost use Rattle.plan.specs.Plan.{planOf, decidedOf};
-ghost use Rattle.plan_binary.specs.Binary.{isShiftedOut, backShift, shiftTwice, shiftBy, shiftPlan};
+ghost use Rattle.plan_binary.specs.Binary.{isShiftedOut, backShift, shiftOfShift, shiftBy, shiftPlan};
 use evaluate::Binary;
-use fold::Chain;
-use fold::MaybeChain;
+use fold::ByConstant;
+use fold::MaybeByConstant;
 use fold::operator::is_folded_shift;
 use fold::operator::same_binary;
-use fold::shape::chain_at;
+use fold::shape::by_constant_at;
 use fold::shape::fits;
 use fold::shape::is_narrow;
 use fold::shape::origin;
@@ -51,12 +51,12 @@ fn is_shifted_out(op: Binary, width: u16, count: Word, narrow: bool) -> bool
 }
 
 // Right after left: the bits that stay, or these shifted left by the rest. Both counts are below the width.
-fn back_shift(width: u16, count: Word, chain: Chain) -> Plan
-    requires { ⌜ (val count < width) × (val (chain .value) < width) ⌝ }
-    ensures { λ r. ⌜ planOf r ≡ backShift width (val count) (oneChainOf chain) ⌝ }
+fn back_shift(width: u16, count: Word, shape: ByConstant) -> Plan
+    requires { ⌜ (val count < width) × (val (shape .value) < width) ⌝ }
+    ensures { λ r. ⌜ planOf r ≡ backShift width (val count) (oneByConstantOf shape) ⌝ }
 {
-    let base = chain.base;
-    let first = chain.value;
+    let base = shape.base;
+    let first = shape.value;
     let ty = ScalarType::Bits(width);
     if first.le(count) {
         let offset = count.lo - first.lo;
@@ -70,12 +70,12 @@ fn back_shift(width: u16, count: Word, chain: Chain) -> Plan
 }
 
 // A shift of a shift left, both below the width.
-fn shift_twice(op: Binary, width: u16, count: Word, chain: Chain) -> MaybePlan
-    ensures { λ r. ⌜ decidedOf r ≡ shiftTwice op width (val count) (oneChainOf chain) ⌝ }
+fn shift_of_shift(op: Binary, width: u16, count: Word, shape: ByConstant) -> MaybePlan
+    ensures { λ r. ⌜ decidedOf r ≡ shiftOfShift op width (val count) (oneByConstantOf shape) ⌝ }
 {
-    let inner = chain.op;
-    let base = chain.base;
-    let first = chain.value;
+    let inner = shape.op;
+    let base = shape.base;
+    let first = shape.value;
     if !first.lt(word_of(width)) || !count.lt(word_of(width)) {
         return MaybePlan::None;
     }
@@ -83,7 +83,7 @@ fn shift_twice(op: Binary, width: u16, count: Word, chain: Chain) -> MaybePlan
         return MaybePlan::None;
     }
     if same_binary(op, Binary::ShiftRight) {
-        return MaybePlan::Some(back_shift(width, count, chain));
+        return MaybePlan::Some(back_shift(width, count, shape));
     }
     let sum = Word {
         lo: first.lo + count.lo,
@@ -106,10 +106,10 @@ fn shift_by(g: &[u64], op: Binary, width: u16, left: NodeId, count: Word) -> May
     if !same_type(type_at(g, source), ty) {
         return MaybePlan::None;
     }
-    let inner = chain_at(g, source);
+    let inner = by_constant_at(g, source);
     match inner {
-        MaybeChain::Some(chain) => shift_twice(op, width, count, chain),
-        MaybeChain::None => MaybePlan::None,
+        MaybeByConstant::Some(shape) => shift_of_shift(op, width, count, shape),
+        MaybeByConstant::None => MaybePlan::None,
     }
 }
 

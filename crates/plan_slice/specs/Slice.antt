@@ -1,24 +1,27 @@
 -- The plans of slice and concat.
-use mathlib.Core.Bool.{cond}
+use mathlib.Core.Bool.{cond, _&&_, _||_}
 use mathlib.Core.List.{List}
 use mathlib.Core.Option.{Option, none, some}
 use Prim.Native.Nat.{ℕ, _+_, _-_, _*_, _/_, _%_, _^_}
 use lib.Bits.{bitOr}
 use lib.Dec.{eqb, ltb, leb}
-use Rattle.word.specs.Value.{residue, provided, only}
-use Rattle.range.specs.Interval.{Interval, both, one, nonnegative, typeInterval, insideBits}
+use Rattle.word.specs.Value.{residue}
+use Rattle.word.specs.Option.{only, provided, given}
+use Rattle.range.specs.Interval.{Interval, nonnegative, insideBits}
 use Rattle.range.specs.declared.ScalarType.the-variants as ty
 use Rattle.evaluate.specs.declared.Binary.the-variants as bi
 use Rattle.graph.specs.Node as node
 use Rattle.graph.specs.Node.{Op, typeAt, rangeAt, operationAt}
 use Rattle.graph.specs.Insert.{literal}
-use Rattle.fold.specs.Shape.{given, sameType}
-use Rattle.bitfield.specs.Bitfield.{above, Field, bitfield}
+use Rattle.fold.specs.Range.{untold, storedRange}
+use Rattle.fold.specs.Shape.{sameType}
+use Rattle.bitfield.specs.Bitfield.{above, Field, foldBitfieldConcat}
 use Rattle.plan_slice.specs.declared.Cut as declared-cut
 use Rattle.plan_slice.specs.declared.MaybeCut as declared-cuts
 use Rattle.plan_slice.specs.declared.MaybeCut.the-variants as cuts
 use Rattle.plan.specs.Plan as plan
 use Rattle.plan.specs.Plan.{Plan, First, does, tries, sliceRest, concatRest}
+use Rattle.plan.specs.OneOperand.{addOr}
 
 -- ---- slice (native.rs 613 to 682)
 
@@ -32,11 +35,11 @@ boundedPlan none v o w = none
 boundedPlan (some a) v o w =
     provided (nonnegative a)
     (cond (eqb (lowered (residue 128 (a .high)) o) 0) (some (plan.constant (ty.Bits w) 0))
-    (only (both (eqb o 0) (insideBits w a)) (plan.identity (ty.Bits w) v)))
+    (only (eqb o 0 && insideBits w a) (plan.identity (ty.Bits w) v)))
 
 -- a new Slice
 abbrev pub newSlice : ℕ → ℕ → ℕ → Plan
-newSlice v o w = plan.add (ty.Bits w) (typeInterval (ty.Bits w)) (node.slice v o w)
+newSlice v o w = addOr (ty.Bits w) (storedRange (ty.Bits w) (node.slice v o w) untold) (node.slice v o w)
 
 -- a slice of a concat: of its high part, of its low part, or of both
 abbrev pub sliceConcat : ℕ → ℕ → ℕ → ℕ → ℕ → Plan
@@ -58,8 +61,8 @@ sliceOperation (node.binary b i j) v o w = newSlice v o w
 -- a slice that its range does not decide
 abbrev pub slicePart : List ℕ → ℕ → ℕ → ℕ → Plan
 slicePart g v o w =
-    cond (one (leb 128 o) (above (typeAt g v) o)) (plan.constant (ty.Bits w) 0)
-    (cond (both (eqb o 0) (sameType (typeAt g v) (ty.Bits w))) (plan.give v) (sliceOperation (operationAt g v) v o w))
+    cond (leb 128 o || above (typeAt g v) o) (plan.constant (ty.Bits w) 0)
+    (cond (eqb o 0 && sameType (typeAt g v) (ty.Bits w)) (plan.give v) (sliceOperation (operationAt g v) v o w))
 
 -- slice after modular
 unfoldable pub slicePlan : List ℕ → ℕ → ℕ → ℕ → Plan
@@ -77,7 +80,7 @@ sliceFirst g v o w = given (literal g v) (λ c. does (plan.constant (ty.Bits w) 
 
 -- a new Concat
 unfoldable pub concatPlan : ℕ → ℕ → ℕ → ℕ → Plan
-concatPlan high low v w = plan.add (ty.Bits w) (typeInterval (ty.Bits w)) (node.concat high low v)
+concatPlan high low v w = addOr (ty.Bits w) (storedRange (ty.Bits w) (node.concat high low v) untold) (node.concat high low v)
 
 -- h moved up by v bits, 0 from 128 on
 abbrev pub raised : ℕ → ℕ → ℕ
@@ -116,7 +119,7 @@ maybeCutOf cuts.None = none
 abbrev pub adjacent : Option Cut → Option Cut → ℕ → ℕ → Option Plan
 adjacent none b v w = none
 adjacent (some a) none v w = none
-adjacent (some a) (some b) v w = only (both (eqb (a .value) (b .value)) (eqb (a .offset) (b .offset + v))) (plan.slice (a .value) (b .offset) w)
+adjacent (some a) (some b) v w = only (eqb (a .value) (b .value) && eqb (a .offset) (b .offset + v)) (plan.slice (a .value) (b .offset) w)
 
 -- a concat of one node's own bits and of constants: And keeps those, Or sets the others (bitfield.rs 103 to 113)
 abbrev pub fieldPlan : List ℕ → ℕ → ℕ → ℕ → ℕ → Field → First
@@ -131,7 +134,7 @@ fieldPlan g high low v w f =
 
 -- a concat that is no slice
 abbrev pub concatField : List ℕ → ℕ → ℕ → ℕ → ℕ → First
-concatField g high low v w = given (bitfield g high low v w) (fieldPlan g high low v w) (does (concatPlan high low v w))
+concatField g high low v w = given (foldBitfieldConcat g high low v w) (fieldPlan g high low v w) (does (concatPlan high low v w))
 
 -- a concat of parts that are not both constants
 abbrev pub concatOpen : List ℕ → ℕ → ℕ → ℕ → ℕ → First

@@ -15,7 +15,7 @@ use bitfield::Field;
 use bitfield::Masked;
 use bitfield::MaybeField;
 use bitfield::bits::is_above;
-use bitfield::fields::bitfield;
+use bitfield::fields::fold_bitfield_concat;
 use evaluate::Binary;
 use fold::MaybeId;
 use fold::shape::same_type;
@@ -304,7 +304,7 @@ fn concat_field(g: &[u64], high: NodeId, low: NodeId, low_width: u16, width: u16
     requires { ⌜ length (now g) ≡ REGION ⌝ }
     ensures { λ r. ⌜ firstOf r ≡ concatField (now (g .entry)) (high .0) (low .0) «low_width» width ⌝ }
 {
-    let bits = bitfield(g, high, low, low_width, width);
+    let bits = fold_bitfield_concat(g, high, low, low_width, width);
     match bits {
         MaybeField::Some(field) => field_plan(g, high, low, low_width, width, field),
         MaybeField::None => First::Do(concat_plan(high, low, low_width, width)),

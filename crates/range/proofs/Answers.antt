@@ -4,7 +4,7 @@ use mathlib.Core.Bool.{Bool, true, false}
 use mathlib.Core.Option.{Option, none, some}
 use Prim.Native.Nat.{ℕ}
 use native.Mathlib.Omega.{arith}
-use Rattle.word.specs.Value.{provided}
+use Rattle.word.specs.Option.{provided}
 
 pub none-some : {A : Type 0} {a : A} → none ≡ some a → ⊥
 none-some e = let z : _≡_ {A = ℕ} 0 1 = cc in omega arith

@@ -1,6 +1,6 @@
 -- The range rules are sound: the result of operands in two intervals lies in the interval that the rule gives. Assumes nothing.
 use mathlib.Core.Path.{_≡_, refl, sym, subst}
-use mathlib.Core.Bool.{Bool, true, false}
+use mathlib.Core.Bool.{Bool, true, false, _&&_, _||_}
 use mathlib.Core.Logic.{_⊎_, inl, inr, ⊎-elim}
 use mathlib.Core.Option.{Option, none, some}
 use Prim.Native.Nat.{ℕ, suc, _+_, _-_, _*_, _/_, _%_, _^_, _≤_, _<_}
@@ -9,14 +9,14 @@ use native.Mathlib.Omega.{arith}
 use borrow.Author.Tests.{ltb-true}
 use lib.Bits.{bitAnd, and-le-l, and-le-r}
 use lib.Dec.{T, ltb}
-use lib.Ieee.Bits.{is-true}
 use lib.IntN.{ℤ, pos, negsuc, natAbs, negℤ, _+ℤ_, _-ℤ_, _*ℤ_}
 use lib.Pow.{pow-pos, pow-mono, le-ones, lt-of-le-ones}
 use lib.Signed.{mag, leZ, ltZ, quotZ, remZ, shrZ, _≤ℤ_, leZ-yes, ≤ℤ-refl}
-use Rattle.word.specs.Value.{fits, fitted, provided, quotient, minZ, maxZ}
+use Rattle.word.specs.Value.{fits, fitted, quotient, minZ, maxZ}
+use Rattle.word.specs.Option.{provided}
 use Rattle.word.proofs.Integer.{lt-or-ge}
 use Rattle.range.specs.declared.ScalarType.the-variants as ty
-use Rattle.range.specs.Interval.{Interval, _∈_, both, one, point, within, nonnegative, bitsInterval, typeInterval, filtered, signExtended, between, addInterval, subInterval, negInterval, cornersOf, mulInterval, divisible, quotInterval, cut, cutTo, remInterval, andInterval, udivInterval, atMost, uremInterval, clamped, shifted, shlInterval, shrInterval}
+use Rattle.range.specs.Interval.{Interval, _∈_, point, nonnegative, bitsInterval, typeInterval, filtered, signExtended, between, addInterval, subInterval, negInterval, cornersOf, mulInterval, divisible, quotInterval, cut, cutTo, remInterval, andInterval, udivInterval, atMost, uremInterval, clamped, shifted, shlInterval, shrInterval}
 use Rattle.range.proofs.Order.{up, down, orders, sum-parts, neg-parts, abs-parts, less-true, pos-le, add-le, neg-le, extremes, le-min, max-le, Between, rising, falling, left-factor, right-factor, dividend, divisor, div-le}
 
 -- ---- tests
@@ -24,24 +24,16 @@ use Rattle.range.proofs.Order.{up, down, orders, sum-parts, neg-parts, 
 pub point-in : (z : ℤ) → z ∈ (point z)
 point-in z = record { above = ≤ℤ-refl z; below = ≤ℤ-refl z }
 
-pub tests : (s t : Bool) → both s t ≡ true → (s ≡ true) × (t ≡ true)
+pub tests : (s t : Bool) → s && t ≡ true → (s ≡ true) × (t ≡ true)
 tests true t e = (refl, e)
 tests false t e = (e, cc)
 
-pub either : (s t : Bool) → one s t ≡ true → (s ≡ true) ⊎ (t ≡ true)
+pub either : (s t : Bool) → s || t ≡ true → (s ≡ true) ⊎ (t ≡ true)
 either true t e = inl refl
 either false t e = inr e
 
 pub at-most : (x y : ℤ) → leZ x y ≡ true → x ≤ℤ y
 at-most x y e = leZ-yes (subst T (sym e) tt)
-
-pub within-in : (a : Interval) (z : ℤ) → within a z ≡ true → z ∈ a
-within-in a z e =
-    let d = tests (leZ (a .low) z) (leZ z (a .high)) e in
-    record { above = at-most (a .low) z (d .0); below = at-most z (a .high) (d .1) }
-
-pub in-within : (a : Interval) (z : ℤ) → z ∈ a → within a z ≡ true
-in-within a z h = rw (is-true (leZ (a .low) z) (h .above .le)) (is-true (leZ z (a .high)) (h .below .le))
 
 -- ---- what holds of an answer, if there is one
 
@@ -59,8 +51,8 @@ tested : {A : Type 0} {P : A → Type 0} (t : Bool) (o : Option A) → (t ≡ tr
 tested true o h = h refl
 tested false o h = nothing
 
-tested-both : {A : Type 0} {P : A → Type 0} (s t : Bool) (o : Option A) → (s ≡ true → t ≡ true → All P o) → All P (provided (both s t) o)
-tested-both s t o h = tested (both s t) o (λ e. h (tests s t e .0) (tests s t e .1))
+tested-both : {A : Type 0} {P : A → Type 0} (s t : Bool) (o : Option A) → (s ≡ true → t ≡ true → All P o) → All P (provided (s && t) o)
+tested-both s t o h = tested (s && t) o (λ e. h (tests s t e .0) (tests s t e .1))
 
 module _ {P : ℤ → Type 0} where
   fit : (z : ℤ) → P z → All P (fitted z)
@@ -295,7 +287,7 @@ type-in-bool n r h = given (_∈_ (pos n)) (just (omega orders))
 
 pub sign-extended-in : (w : ℕ) (r : Interval) (z : ℤ) → mag z < 2 ^ (w - 1) → signExtended w ≡ some r → z ∈ r
 unfolding signExtended
-sign-extended-in w r z h = given (_∈_ z) (tested (both (ltb 0 w) (ltb w 128)) _ (λ t. just (half z h)))
+sign-extended-in w r z h = given (_∈_ z) (tested (ltb 0 w && ltb w 128) _ (λ t. just (half z h)))
   where
     half : (z : ℤ) → mag z < 2 ^ (w - 1) → _∈_ z (record { low = negℤ (pos (2 ^ (w - 1))); high = pos (2 ^ (w - 1) - 1) })
     half (pos n) h = omega (orders, neg-parts (pos (2 ^ (w - 1))))

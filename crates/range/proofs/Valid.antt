@@ -1,6 +1,6 @@
 -- The ranges of types, and those that the rules give, are not empty and lie inside their types. Assumes nothing.
 use mathlib.Core.Path.{_≡_, refl, subst}
-use mathlib.Core.Bool.{Bool, true, false}
+use mathlib.Core.Bool.{Bool, true, false, _&&_, _||_}
 use mathlib.Core.Logic.{⊎-elim}
 use mathlib.Core.Option.{Option, some}
 use Prim.Native.Nat.{ℕ, _-_, _^_, _<_}
@@ -11,8 +11,8 @@ use lib.Ieee.Bits.{is-true}
 use lib.IntN.{ℤ, pos, negsuc, negℤ}
 use lib.Pow.{le-ones}
 use lib.Signed.{mag, leZ, ltZ, _≤ℤ_, ≤ℤ-refl}
-use Rattle.word.specs.Value.{provided}
-use Rattle.range.specs.Interval.{Interval, _∈_, both, one, point, nonnegative, bitsInterval, typeInterval, insideBits, insideType, filtered, signExtended, addInterval, subInterval, negInterval, mulInterval, quotInterval, remInterval, andInterval, udivInterval, uremInterval, shlInterval, shrInterval}
+use Rattle.word.specs.Option.{provided}
+use Rattle.range.specs.Interval.{Interval, _∈_, point, nonnegative, bitsInterval, typeInterval, insideBits, insideType, filtered, signExtended, addInterval, subInterval, negInterval, mulInterval, quotInterval, remInterval, andInterval, udivInterval, uremInterval, shlInterval, shrInterval}
 use Rattle.range.specs.declared.ScalarType.{ScalarType}
 use Rattle.range.specs.declared.ScalarType.the-variants as ty
 use Rattle.range.proofs.Order.{orders, less-true, neg-parts}
@@ -29,7 +29,7 @@ pub record Valid (t : ScalarType) (a : Interval) : Type 0 where
 pub le-test : {x y : ℤ} → x ≤ℤ y → leZ x y ≡ true
 le-test {x} {y} h = is-true (leZ x y) (h .le)
 
-one-true : (s : Bool) → one s true ≡ true
+one-true : (s : Bool) → s || true ≡ true
 one-true true = refl
 one-true false = refl
 
@@ -71,7 +71,7 @@ module _ (a b r : Interval) (f : a .low ≤ℤ a .high) (g : b .low ≤ℤ b .hi
   rem-full e = holds (rem-in a b r (a .low) (b .low) (low-in f) (low-in g) e)
 
   -- numbers in both, for a rule that needs ranges that are not negative
-  naturals : (o : Option Interval) → provided (both (nonnegative a) (nonnegative b)) o ≡ some r
+  naturals : (o : Option Interval) → provided (nonnegative a && nonnegative b) o ≡ some r
       → (m : ℕ) × (n : ℕ) × ((pos m) ∈ a) × ((pos n) ∈ b)
   naturals o e =
       let d = tests (nonnegative a) (nonnegative b) (provided-is _ o e .0) in
@@ -80,7 +80,7 @@ module _ (a b r : Interval) (f : a .low ≤ℤ a .high) (g : b .low ≤ℤ b .hi
       (m, n, h, k)
 
   -- the same, and a divisor above 0
-  divisors : (o : Option Interval) → provided (both (nonnegative a) (ltZ (pos 0) (b .low))) o ≡ some r
+  divisors : (o : Option Interval) → provided (nonnegative a && ltZ (pos 0) (b .low)) o ≡ some r
       → (m : ℕ) × (n : ℕ) × ((pos m) ∈ a) × ((pos n) ∈ b)
   divisors o e =
       let d = tests (nonnegative a) (ltZ (pos 0) (b .low)) (provided-is _ o e .0) in
@@ -113,7 +113,7 @@ pub extended-full : (w : ℕ) (r : Interval) → signExtended w ≡ some r → r
 unfolding signExtended
 extended-full w r e =
     let h : negℤ (pos (2 ^ (w - 1))) ≤ℤ pos (2 ^ (w - 1) - 1) = omega (orders, neg-parts (pos (2 ^ (w - 1)))) in
-    subst (λ (a : Interval). a .low ≤ℤ a .high) (some-is (provided-is (both (ltb 0 w) (ltb w 128)) _ e .1)) h
+    subst (λ (a : Interval). a .low ≤ℤ a .high) (some-is (provided-is (ltb 0 w && ltb w 128) _ e .1)) h
 
 -- ---- ranges inside their types
 

@@ -1,11 +1,12 @@
 -- Intervals of integers: what a range stands for, the interval of a type, and the range rules of native.rs.
-use mathlib.Core.Bool.{Bool, true, false, not}
+use mathlib.Core.Bool.{Bool, true, not, _&&_, _||_}
 use mathlib.Core.Option.{Option, none, some}
 use Prim.Native.Nat.{ℕ, min, _-_, _^_}
 use lib.Dec.{leb, ltb}
 use lib.IntN.{ℤ, pos, negsuc, natAbs, negℤ, _+ℤ_, _-ℤ_, _*ℤ_}
 use lib.Signed.{ltZ, leZ, shrZ, _≤ℤ_}
-use Rattle.word.specs.Value.{intOf, fitted, only, provided, minZ, maxZ, eqZ, quotient}
+use Rattle.word.specs.Value.{intOf, fitted, minZ, maxZ, eqZ, quotient}
+use Rattle.word.specs.Option.{only, provided}
 use Rattle.range.specs.declared.Range.{Range}
 use Rattle.range.specs.declared.MaybeRange.{MaybeRange}
 use Rattle.range.specs.declared.MaybeRange.the-variants as range
@@ -32,27 +33,17 @@ abbrev pub intervalOf : MaybeRange → Option Interval
 intervalOf (range.Some r) = some (boundsOf r)
 intervalOf range.None = none
 
--- are both tests true?
-abbrev pub both : Bool → Bool → Bool
-both true t = t
-both false t = false
-
--- is one of two tests true?
-abbrev pub one : Bool → Bool → Bool
-one true t = true
-one false t = t
-
 -- z alone
 abbrev pub point : ℤ → Interval
 point z = record { low = z; high = z }
 
 -- is z in a?
 abbrev pub within : Interval → ℤ → Bool
-within a z = both (leZ (a .low) z) (leZ z (a .high))
+within a z = leZ (a .low) z && leZ z (a .high)
 
 -- have a and b the same ends?
 abbrev pub sameInterval : Interval → Interval → Bool
-sameInterval a b = both (eqZ (a .low) (b .low)) (eqZ (a .high) (b .high))
+sameInterval a b = eqZ (a .low) (b .low) && eqZ (a .high) (b .high)
 
 -- is no integer of a below 0?
 abbrev pub nonnegative : Interval → Bool
@@ -72,7 +63,7 @@ typeInterval ty.Integer = none
 
 -- is a inside Bits(w)? Bits are not negative, and Bits(128) have no other bound
 abbrev pub insideBits : ℕ → Interval → Bool
-insideBits w a = both (nonnegative a) (one (leb 128 w) (leZ (a .high) (pos (2 ^ w - 1))))
+insideBits w a = nonnegative a && (leb 128 w || leZ (a .high) (pos (2 ^ w - 1)))
 
 -- is a inside a type?
 abbrev pub insideType : ScalarType → Interval → Bool
@@ -82,11 +73,11 @@ insideType ty.Integer a = true
 
 -- a as the range of a result in Bits(w), if w is below 128 and a lies inside the type
 unfoldable pub filtered : ℕ → Interval → Option Interval
-filtered w a = only (both (ltb w 128) (both (nonnegative a) (leZ (a .high) (pos (2 ^ w - 1))))) a
+filtered w a = only (ltb w 128 && (nonnegative a && leZ (a .high) (pos (2 ^ w - 1)))) a
 
 -- the integers of w bits in two's complement
 unfoldable pub signExtended : ℕ → Option Interval
-signExtended w = only (both (ltb 0 w) (ltb w 128)) (record { low = negℤ (pos (2 ^ (w - 1))); high = pos (2 ^ (w - 1) - 1) })
+signExtended w = only (ltb 0 w && ltb w 128) (record { low = negℤ (pos (2 ^ (w - 1))); high = pos (2 ^ (w - 1) - 1) })
 
 -- ---- the rules
 
@@ -125,7 +116,7 @@ mulInterval a b =
 -- is 0 no divisor, and no quotient -(2 ^ 127) / -1?
 unfoldable pub divisible : Interval → Interval → Bool
 divisible a b =
-    both (one (ltZ (pos 0) (b .low)) (ltZ (b .high) (pos 0))) (not (both (within a (negsuc (2 ^ 127 - 1))) (within b (negsuc 0))))
+    (ltZ (pos 0) (b .low) || ltZ (b .high) (pos 0)) && not (within a (negsuc (2 ^ 127 - 1)) && within b (negsuc 0))
 
 -- DivideSigned: the quotients at the four corners
 unfoldable pub quotInterval : Interval → Interval → Option Interval
@@ -149,11 +140,11 @@ remInterval a b = provided (divisible a b) (cutTo a (fitted (pos (natAbs (b .low
 
 -- And of non-negative ranges: 0 to the lesser maximum
 unfoldable pub andInterval : Interval → Interval → Option Interval
-andInterval a b = provided (both (nonnegative a) (nonnegative b)) (between (some (pos 0)) (some (minZ (a .high) (b .high))))
+andInterval a b = provided (nonnegative a && nonnegative b) (between (some (pos 0)) (some (minZ (a .high) (b .high))))
 
 -- DivideUnsigned of a non-negative range by a positive one: 0 to the largest quotient
 unfoldable pub udivInterval : Interval → Interval → Option Interval
-udivInterval a b = provided (both (nonnegative a) (ltZ (pos 0) (b .low))) (between (some (pos 0)) (quotient (a .high) (b .low)))
+udivInterval a b = provided (nonnegative a && ltZ (pos 0) (b .low)) (between (some (pos 0)) (quotient (a .high) (b .low)))
 
 -- the lesser of z and an answer
 abbrev pub atMost : ℤ → Option ℤ → Option ℤ
@@ -162,7 +153,7 @@ atMost z (some m) = some (minZ z m)
 
 -- RemainderUnsigned of the same: 0 to the lesser of the maximum and the largest divisor less 1
 unfoldable pub uremInterval : Interval → Interval → Option Interval
-uremInterval a b = provided (both (nonnegative a) (ltZ (pos 0) (b .low))) (between (some (pos 0)) (atMost (a .high) (fitted (b .high -ℤ pos 1))))
+uremInterval a b = provided (nonnegative a && ltZ (pos 0) (b .low)) (between (some (pos 0)) (atMost (a .high) (fitted (b .high -ℤ pos 1))))
 
 -- a shift's amount, at most 128
 unfoldable pub clamped : ℤ → ℕ
@@ -175,10 +166,10 @@ shifted z n = provided (ltb (clamped n) 127) (fitted (z *ℤ pos (2 ^ clamped n)
 
 -- ShiftLeft of non-negative ranges: the minimum by the least amount to the maximum by the largest
 unfoldable pub shlInterval : Interval → Interval → Option Interval
-shlInterval a b = provided (both (nonnegative a) (nonnegative b)) (between (shifted (a .low) (b .low)) (shifted (a .high) (b .high)))
+shlInterval a b = provided (nonnegative a && nonnegative b) (between (shifted (a .low) (b .low)) (shifted (a .high) (b .high)))
 
 -- ShiftRight of non-negative ranges: the minimum by the largest amount to the maximum by the least
 unfoldable pub shrInterval : Interval → Interval → Option Interval
 shrInterval a b =
-    only (both (nonnegative a) (nonnegative b))
+    only (nonnegative a && nonnegative b)
     (record { low = shrZ (a .low) (2 ^ clamped (b .high)); high = shrZ (a .high) (2 ^ clamped (b .low)) })

@@ -5,25 +5,26 @@ use mathlib.Core.List.{List, _++_}
 use mathlib.Core.Logic.{⊎-elim}
 use Prim.Native.Nat.{ℕ, zero, suc, _+_, _-_, _*_, _<_, _≤_}
 use native.Mathlib.Omega.{arith}
-use lib.Dec.{lit<}
+use borrow.Author.Tests.{eqb-true}
+use lib.Dec.{eqb, lit<}
 use lib.ListN.{length, getD, take, replicate, length-append, length-replicate, List·getD-append}
 use lib.Seq.{getD-append-add, length-take-le, take-at}
 use Rattle.word.proofs.Integer.{lt-or-ge}
-use Rattle.graph.specs.Layout.{WORDS, KEY, FIRST, REGION, nodeStart, wordAt, countOf}
+use Rattle.graph.specs.Layout.{OPERATION, X, Y, Z, ALIAS, WORDS, KEY, FIRST, REGION, nodeStart, wordAt, countOf}
 use Rattle.graph.specs.Node.{typeAt, rangeAt, operationAt, aliasAt}
 use Rattle.graph.specs.Clear.{cleared}
 use Rattle.graph.proofs.Grown.{Graph}
 use Rattle.graph.proofs.Nodes.{Holds, reading}
 use Rattle.graph.proofs.Wiping.{Cleared, cleared-facts}
 use Rattle.retain.specs.Retain.{isKept, hasFirst, hasSecond, keptBelow, newId, through, movedWords, keptNodes, retained, renamed}
-use Rattle.retain.proofs.Moving.{kept-le, moved-length, moved-same}
-use Rattle.retain.proofs.Operands.{renamed-operation, first-below, second-below, Choice, first-kept, second-kept}
+use Rattle.retain.proofs.Moving.{kept-le, isOperand, moved-length, moved-at, moved-same}
+use Rattle.retain.proofs.Operands.{renamed-operation, first-below, second-below, KeepList, first-kept, second-kept}
 
 -- ---- the mapping
 
 module _ (keep : List ℕ) where
   -- one node more keeps none or one
-  pub kept-step : (n : ℕ) → isKept keep n ≡ true → keptBelow keep (suc n) ≡ suc (keptBelow keep n)
+  kept-step : (n : ℕ) → isKept keep n ≡ true → keptBelow keep (suc n) ≡ suc (keptBelow keep n)
   kept-step n e = rw e
 
   pub kept-mono : (m n : ℕ) → m ≤ n → keptBelow keep m ≤ keptBelow keep n
@@ -155,7 +156,7 @@ module _ (g keep : List ℕ) (f : Graph g) where
         record {
           type = h .type;
           range = h .range;
-          operation = h .operation ∙ renamed-operation (newId keep) (wordAt g n 7) (wordAt g n 8) (wordAt g n 9) (wordAt g n 10);
+          operation = h .operation ∙ renamed-operation (newId keep) (wordAt g n OPERATION) (wordAt g n X) (wordAt g n Y) (wordAt g n Z);
           alias = h .alias;
         }
 
@@ -165,7 +166,18 @@ module _ (g keep : List ℕ) (f : Graph g) where
 pub SameKey : List ℕ → ℕ → ℕ → Type 0
 SameKey g m n = (k : ℕ) → k < KEY → wordAt g m k ≡ wordAt g n k
 
-module _ {g keep mapping : List ℕ} (f : Graph g) (d : Choice g keep mapping) (m n : ℕ) (mb : m < countOf g) (nb : n < countOf g)
+-- a kept node's operands are kept, by their words
+operand-kept : {g keep mapping : List ℕ} → KeepList g keep mapping → (n : ℕ) → n < countOf g → isKept keep n ≡ true
+    → (k : ℕ) → isOperand (wordAt g n OPERATION) k ≡ true → isKept keep (wordAt g n k) ≡ true
+operand-kept {g} {keep} d n l e k = by (eqb k X) (eqb k Y) refl refl
+  where
+    by : (s t : Bool) → eqb k X ≡ s → eqb k Y ≡ t
+        → cond s (hasFirst (wordAt g n OPERATION)) (cond t (hasSecond (wordAt g n OPERATION)) false) ≡ true → isKept keep (wordAt g n k) ≡ true
+    by true t p q h = rw (eqb-true k X p) (first-kept d n l e h)
+    by false true p q h = rw (eqb-true k Y q) (second-kept d n l e h)
+    by false false p q h = absurd (false≢true h)
+
+module _ {g keep mapping : List ℕ} (f : Graph g) (d : KeepList g keep mapping) (m n : ℕ) (mb : m < countOf g) (nb : n < countOf g)
     (mk : isKept keep m ≡ true) (nk : isKept keep n ≡ true) where
   -- equal keys stay equal
   pub keys-stay : SameKey g m n → SameKey (retained g keep) (keptBelow keep m) (keptBelow keep n)
@@ -180,9 +192,9 @@ module _ {g keep mapping : List ℕ} (f : Graph g) (d : Choice g keep mapping) (
     unfolding SameKey
     moved-word k h = sym (retained-word g keep f m mb mk k (omega arith)) ∙ same k h ∙ retained-word g keep f n nb nk k (omega arith)
 
-    code : wordAt g m 7 ≡ wordAt g n 7
+    code : wordAt g m OPERATION ≡ wordAt g n OPERATION
     unfolding movedWords
-    code = moved-word 7 (lit< tt)
+    code = moved-word OPERATION (lit< tt)
 
     operand : (t s : Bool) (x y : ℕ) → t ≡ s → (t ≡ true → isKept keep x ≡ true) → (s ≡ true → isKept keep y ≡ true)
         → through (newId keep) t x ≡ through (newId keep) s y → x ≡ y
@@ -193,25 +205,14 @@ module _ {g keep mapping : List ℕ} (f : Graph g) (d : Choice g keep mapping) (
 
     pub keys-apart : SameKey g m n
     unfolding SameKey movedWords
-    keys-apart zero h = moved-word 0 (lit< tt)
-    keys-apart (suc zero) h = moved-word 1 (lit< tt)
-    keys-apart (suc (suc zero)) h = moved-word 2 (lit< tt)
-    keys-apart (suc (suc (suc zero))) h = moved-word 3 (lit< tt)
-    keys-apart (suc (suc (suc (suc zero)))) h = moved-word 4 (lit< tt)
-    keys-apart (suc (suc (suc (suc (suc zero))))) h = moved-word 5 (lit< tt)
-    keys-apart (suc (suc (suc (suc (suc (suc zero)))))) h = moved-word 6 (lit< tt)
-    keys-apart (suc (suc (suc (suc (suc (suc (suc zero))))))) h = moved-word 7 (lit< tt)
-    keys-apart (suc (suc (suc (suc (suc (suc (suc (suc zero)))))))) h =
-        operand (hasFirst (wordAt g m 7)) (hasFirst (wordAt g n 7)) (wordAt g m 8) (wordAt g n 8) (ap hasFirst code) (first-kept d m mb mk) (first-kept d n nb nk) (moved-word 8 (lit< tt))
-    keys-apart (suc (suc (suc (suc (suc (suc (suc (suc (suc zero))))))))) h =
-        operand (hasSecond (wordAt g m 7)) (hasSecond (wordAt g n 7)) (wordAt g m 9) (wordAt g n 9) (ap hasSecond code) (second-kept d m mb mk) (second-kept d n nb nk) (moved-word 9 (lit< tt))
-    keys-apart (suc (suc (suc (suc (suc (suc (suc (suc (suc (suc zero)))))))))) h = moved-word 10 (lit< tt)
-    keys-apart (suc (suc (suc (suc (suc (suc (suc (suc (suc (suc (suc k))))))))))) h = absurd (omega arith)
+    keys-apart k h =
+        operand (isOperand (wordAt g m OPERATION) k) (isOperand (wordAt g n OPERATION) k) (wordAt g m k) (wordAt g n k) (ap (λ (c : ℕ). isOperand c k) code)
+        (operand-kept d m mb mk k) (operand-kept d n nb nk k) (sym (moved-at (newId keep) g m k h) ∙ moved-word k h ∙ moved-at (newId keep) g n k h)
 
 -- ---- all nodes kept
 
 module _ (g keep : List ℕ) (f : Graph g) (all : (n : ℕ) → n < countOf g → isKept keep n ≡ true) where
-  pub all-below : (n : ℕ) → n ≤ countOf g → keptBelow keep n ≡ n
+  all-below : (n : ℕ) → n ≤ countOf g → keptBelow keep n ≡ n
   all-below zero l = refl
   all-below (suc n) l = kept-step keep n (all n (omega arith)) ∙ ap suc (all-below n (omega arith))
 
@@ -221,8 +222,8 @@ module _ (g keep : List ℕ) (f : Graph g) (all : (n : ℕ) → n < countOf g �
   -- each word but the alias stays
   all-moved : (n : ℕ) → n < countOf g → movedWords (newId keep) g n ≡ movedWords (λ i. i) g n
   all-moved n l =
-      moved-same (λ i. i) (newId keep) g g n n (λ k h. refl) (λ e. all-new (wordAt g n 8) (omega (arith, first-below f n l e)))
-      (λ e. all-new (wordAt g n 9) (omega (arith, second-below f n l e)))
+      moved-same (λ i. i) (newId keep) g g n n (λ k h. refl) (λ e. all-new (wordAt g n X) (omega (arith, first-below f n l e)))
+      (λ e. all-new (wordAt g n Y) (omega (arith, second-below f n l e)))
 
   through-id : (t : Bool) (x : ℕ) → through (λ i. i) t x ≡ x
   through-id true x = refl
@@ -230,19 +231,7 @@ module _ (g keep : List ℕ) (f : Graph g) (all : (n : ℕ) → n < countOf g �
 
   -- the words of a node without its alias
   bare : (n k : ℕ) → k < KEY → getD (movedWords (λ i. i) g n) k 0 ≡ wordAt g n k
-  unfolding movedWords
-  bare n zero h = refl
-  bare n (suc zero) h = refl
-  bare n (suc (suc zero)) h = refl
-  bare n (suc (suc (suc zero))) h = refl
-  bare n (suc (suc (suc (suc zero)))) h = refl
-  bare n (suc (suc (suc (suc (suc zero))))) h = refl
-  bare n (suc (suc (suc (suc (suc (suc zero)))))) h = refl
-  bare n (suc (suc (suc (suc (suc (suc (suc zero))))))) h = refl
-  bare n (suc (suc (suc (suc (suc (suc (suc (suc zero)))))))) h = through-id (hasFirst (wordAt g n 7)) (wordAt g n 8)
-  bare n (suc (suc (suc (suc (suc (suc (suc (suc (suc zero))))))))) h = through-id (hasSecond (wordAt g n 7)) (wordAt g n 9)
-  bare n (suc (suc (suc (suc (suc (suc (suc (suc (suc (suc zero)))))))))) h = refl
-  bare n (suc (suc (suc (suc (suc (suc (suc (suc (suc (suc (suc k))))))))))) h = absurd (omega arith)
+  bare n k h = moved-at (λ i. i) g n k h ∙ through-id (isOperand (wordAt g n OPERATION) k) (wordAt g n k)
 
   pub all-count : countOf (retained g keep) ≡ countOf g
   all-count = retained-count g keep f ∙ all-below (countOf g) (omega arith)
@@ -260,4 +249,4 @@ module _ (g keep : List ℕ) (f : Graph g) (all : (n : ℕ) → n < countOf g �
     -- and clears their aliases
     pub all-cleared : aliasAt (retained g keep) n ≡ 0
     unfolding movedWords
-    all-cleared = at-home 11 (lit< tt)
+    all-cleared = at-home ALIAS (lit< tt)

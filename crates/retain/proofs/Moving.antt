@@ -3,14 +3,16 @@ use mathlib.Core.Path.{_≡_, refl, sym, ap, _∙_}
 use mathlib.Core.Bool.{Bool, true, false, cond}
 use mathlib.Core.List.{List, [], _∷_, _++_, append-assoc, append-nil}
 use mathlib.Core.Logic.{⊎-elim}
-use Prim.Native.Nat.{ℕ, zero, suc, _+_, _<_, _≤_}
+use Prim.Native.Nat.{ℕ, zero, suc, _+_, _-_, _<_, _≤_}
 use native.Mathlib.Numerals.{add-one}
 use native.Mathlib.Omega.{arith}
-use lib.Dec.{lit<}
-use lib.ListN.{length, getD, set, take, length-set, length-append, List·getD-append}
+use borrow.Author.Tests.{ne-eqb}
+use lib.Dec.{eqb, lit<}
+use lib.ListN.{length, getD, set, take, replicate, length-set, length-append, List·getD-append}
 use lib.Seq.{take-all, take-paste, take-suc-set, getD-take, getD-at}
 use Rattle.word.proofs.Integer.{lt-or-ge}
-use Rattle.graph.specs.Layout.{WORDS, KEY, FIRST, REGION, LIMIT, nodeStart, wordAt, countOf}
+use Rattle.graph.specs.Layout.{OPERATION, X, Y, Z, WORDS, KEY, FIRST, REGION, LIMIT, nodeStart, wordAt, wordsFrom, countOf}
+use Rattle.graph.specs.Node.{PAST}
 use Rattle.graph.specs.Clear.{cleared}
 use Rattle.graph.proofs.Nodes.{stored-length, stored-other}
 use Rattle.retain.specs.Retain.{isKept, hasFirst, hasSecond, DROPPED, keptBelow, newId, newIds, through, movedWords, moved, keptNodes, retained}
@@ -47,9 +49,44 @@ ids-at keep (suc m) n d h =
 
 -- ---- the words of a moved node
 
+-- one word more of the first ones, in a list that has zeros for the others
+pub filled : (g : List ℕ) (n j k r : ℕ) → set (wordsFrom g n j k ++ replicate (suc r) 0) k (wordAt g n (j + k)) ≡ wordsFrom g n j (suc k) ++ replicate r 0
+filled g n j zero r = let e : j + 0 ≡ j = omega arith in rw e
+filled g n j (suc k) r = let e : j + suc k ≡ suc j + k = omega arith in rw e (ap (λ (l : List ℕ). wordAt g n j ∷ l) (filled g n (suc j) k r))
+
 pub moved-length : (f : ℕ → ℕ) (g : List ℕ) (n : ℕ) → length (movedWords f g n) ≡ WORDS
 unfolding movedWords
 moved-length f g n = refl
+
+-- one of the first words of a node, in a list that begins with them
+front-at : (g : List ℕ) (n j m k : ℕ) (r : List ℕ) → k < m → getD (wordsFrom g n j m ++ r) k 0 ≡ wordAt g n (j + k)
+front-at g n j zero k r h = absurd (omega arith)
+front-at g n j (suc m) zero r h = let e : j ≡ j + 0 = omega arith in ap (wordAt g n) e
+front-at g n j (suc m) (suc k) r h = let e : suc j + k ≡ j + suc k = omega arith in front-at g n (suc j) m k r (omega arith) ∙ ap (wordAt g n) e
+
+-- does word k of a node with this code hold an operand?
+abbrev pub isOperand : ℕ → ℕ → Bool
+isOperand code k = cond (eqb k X) (hasFirst code) (cond (eqb k Y) (hasSecond code) false)
+
+-- word k of a moved node's key: an operand is read through f
+pub moved-at : (f : ℕ → ℕ) (g : List ℕ) (n k : ℕ) → k < KEY → getD (movedWords f g n) k 0 ≡ through f (isOperand (wordAt g n OPERATION) k) (wordAt g n k)
+unfolding movedWords
+moved-at f g n k h =
+    ⊎-elim
+    (λ (l : k < X).
+    let e : 0 + k ≡ k = omega arith in
+    rw (ne-eqb k X (λ q. omega arith), ne-eqb k Y (λ q. omega arith)) (front-at g n 0 X k rest l ∙ ap (wordAt g n) e))
+    (λ (l : X ≤ k). fields (k - X) (omega arith))
+    (lt-or-ge k X)
+  where
+    rest : List ℕ
+    rest = through f (hasFirst (wordAt g n OPERATION)) (wordAt g n X) ∷ through f (hasSecond (wordAt g n OPERATION)) (wordAt g n Y) ∷ wordAt g n Z ∷ PAST
+
+    fields : (i : ℕ) → k ≡ X + i → getD (movedWords f g n) k 0 ≡ through f (isOperand (wordAt g n OPERATION) k) (wordAt g n k)
+    fields zero e = rw e
+    fields (suc zero) e = rw e
+    fields (suc (suc zero)) e = rw e
+    fields (suc (suc (suc i))) e = absurd (omega arith)
 
 moved-take : (f : ℕ → ℕ) (g : List ℕ) (n : ℕ) → take WORDS (movedWords f g n) ≡ movedWords f g n
 moved-take f g n = take-all WORDS (movedWords f g n) (omega (arith, moved-length f g n))
@@ -60,12 +97,12 @@ through-same f h false x e = refl
 
 -- nodes with the same key, read through mappings that agree on the operands
 module _ (f r : ℕ → ℕ) (g h : List ℕ) (n m : ℕ) (same : (k : ℕ) → k < KEY → wordAt h m k ≡ wordAt g n k)
-    (first : hasFirst (wordAt g n 7) ≡ true → r (wordAt g n 8) ≡ f (wordAt g n 8))
-    (second : hasSecond (wordAt g n 7) ≡ true → r (wordAt g n 9) ≡ f (wordAt g n 9)) where
+    (first : hasFirst (wordAt g n OPERATION) ≡ true → r (wordAt g n X) ≡ f (wordAt g n X))
+    (second : hasSecond (wordAt g n OPERATION) ≡ true → r (wordAt g n Y) ≡ f (wordAt g n Y)) where
   pub moved-same : movedWords r h m ≡ movedWords f g n
   unfolding movedWords
   moved-same =
-      rw (same 0 (lit< tt), same 1 (lit< tt), same 2 (lit< tt), same 3 (lit< tt), same 4 (lit< tt), same 5 (lit< tt), same 6 (lit< tt), same 7 (lit< tt), same 8 (lit< tt), same 9 (lit< tt), same 10 (lit< tt), through-same r f (hasFirst (wordAt g n 7)) (wordAt g n 8) first, through-same r f (hasSecond (wordAt g n 7)) (wordAt g n 9) second)
+      rw (same 0 (lit< tt), same 1 (lit< tt), same 2 (lit< tt), same 3 (lit< tt), same 4 (lit< tt), same 5 (lit< tt), same 6 (lit< tt), same 7 (lit< tt), same 8 (lit< tt), same 9 (lit< tt), same 10 (lit< tt), through-same r f (hasFirst (wordAt g n OPERATION)) (wordAt g n X) first, through-same r f (hasSecond (wordAt g n OPERATION)) (wordAt g n Y) second)
 
 -- ---- the loop
 
@@ -100,7 +137,7 @@ abbrev pub nextAfter : List ℕ → ℕ → ℕ → ℕ
 nextAfter keep next n = cond (isKept keep n) (suc next) next
 
 module _ (g keep h mapping : List ℕ) (next n : ℕ) (v : Moving g keep h mapping next n) (more : n < countOf g) (room : countOf g ≤ LIMIT)
-    (first : hasFirst (wordAt g n 7) ≡ true → wordAt g n 8 < n) (second : hasSecond (wordAt g n 7) ≡ true → wordAt g n 9 < n) where
+    (first : hasFirst (wordAt g n OPERATION) ≡ true → wordAt g n X < n) (second : hasSecond (wordAt g n OPERATION) ≡ true → wordAt g n Y < n) where
   -- the mapping, read at an operand
   read-told : (i : ℕ) → i < n → getD mapping i DROPPED ≡ newId keep i
   read-told i l = sym (getD-take n mapping i DROPPED l) ∙ ap (λ (m : List ℕ). getD m i DROPPED) (v .told) ∙ ids-at keep n i DROPPED l
@@ -115,8 +152,8 @@ module _ (g keep h mapping : List ℕ) (next n : ℕ) (v : Moving g keep h mappi
   words-same : words ≡ movedWords (newId keep) g n
   unfolding words
   words-same =
-      moved-same (newId keep) (λ i. getD mapping i DROPPED) g h n n (λ k l. v .rest n k (omega arith) (omega arith)) (λ e. read-told (wordAt g n 8) (first e))
-      (λ e. read-told (wordAt g n 9) (second e))
+      moved-same (newId keep) (λ i. getD mapping i DROPPED) g h n n (λ k l. v .rest n k (omega arith) (omega arith)) (λ e. read-told (wordAt g n X) (first e))
+      (λ e. read-told (wordAt g n Y) (second e))
 
   small : next ≤ n
   small = omega (arith, v .kept, kept-le keep n)
@@ -131,7 +168,7 @@ module _ (g keep h mapping : List ℕ) (next n : ℕ) (v : Moving g keep h mappi
       (append-assoc (take FIRST g) (keptNodes g keep n) (movedWords (newId keep) g n))
 
   -- one node more
-  pub moving-on : Moving g keep (regionAfter keep h mapping next n) (mappingAfter keep mapping next n) (nextAfter keep next n) (suc n)
+  moving-on : Moving g keep (regionAfter keep h mapping next n) (mappingAfter keep mapping next n) (nextAfter keep next n) (suc n)
   unfolding words
   moving-on = by (isKept keep n) refl
     where

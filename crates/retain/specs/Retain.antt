@@ -1,15 +1,15 @@
 -- Module 8: which nodes a caller may keep, their new ids, and the region that is left.
-use mathlib.Core.Bool.{Bool, true, cond}
+use mathlib.Core.Bool.{Bool, true, cond, _&&_, _||_}
 use mathlib.Core.List.{List, [], _∷_, _++_}
 use Prim.Native.Nat.{ℕ, zero, suc, _-_, _^_}
 use lib.Dec.{eqb, leb}
 use lib.ListN.{length, getD, set, take, replicate}
 use lib.Seq.{paste}
-use Rattle.range.specs.Interval.{both, one}
 use Rattle.graph.specs.Node as node
-use Rattle.graph.specs.Node.{Op}
+use Rattle.graph.specs.Node.{Op, PAST}
 use Rattle.graph.specs.WellFormed.{allPass}
-use Rattle.graph.specs.Layout.{WORDS, FIRST, REGION, nodeStart, wordAt, countOf}
+use Rattle.evaluate.specs.Operator.{BINARY}
+use Rattle.graph.specs.Layout.{OPERATION, X, Y, Z, WORDS, FIRST, REGION, REFINE, SLICE, CONCAT, nodeStart, wordAt, wordsFrom, countOf}
 
 -- ---- question 6
 
@@ -17,34 +17,34 @@ use Rattle.graph.specs.Layout.{WORDS, FIRST, REGION, nodeStart, wordAt, countOf
 abbrev pub isKept : List ℕ → ℕ → Bool
 isKept keep n = eqb (getD keep n 0) 1
 
--- does word 8 of an operation hold an operand? Not of a Constant, an Input or an Effect
+-- does field X of an operation hold an operand? Not of a Constant, an Input or an Effect
 abbrev pub hasFirst : ℕ → Bool
-hasFirst code = one (eqb code 2) (leb 4 code)
+hasFirst code = eqb code REFINE || leb SLICE code
 
--- does word 9? Of a Concat and of the binary operations
+-- does field Y? Of a Concat and of the binary operations
 abbrev pub hasSecond : ℕ → Bool
-hasSecond code = one (eqb code 5) (leb 20 code)
+hasSecond code = eqb code CONCAT || leb BINARY code
 
 -- the operands of node n
 abbrev pub operandsAt : List ℕ → ℕ → List ℕ
-operandsAt g n = cond (hasFirst (wordAt g n 7)) (wordAt g n 8 ∷ cond (hasSecond (wordAt g n 7)) (wordAt g n 9 ∷ []) []) []
+operandsAt g n = cond (hasFirst (wordAt g n OPERATION)) (wordAt g n X ∷ cond (hasSecond (wordAt g n OPERATION)) (wordAt g n Y ∷ []) []) []
 
 -- are all of these ids kept?
 abbrev pub areKept : List ℕ → List ℕ → Bool
 areKept keep [] = true
-areKept keep (i ∷ is) = both (isKept keep i) (areKept keep is)
+areKept keep (i ∷ is) = isKept keep i && areKept keep is
 
 -- node n: its keep element is 0, or it is 1 and each operand is kept
 abbrev pub isAllowed : List ℕ → List ℕ → ℕ → Bool
-isAllowed g keep n = one (eqb (getD keep n 0) 0) (both (isKept keep n) (areKept keep (operandsAt g n)))
+isAllowed g keep n = eqb (getD keep n 0) 0 || (isKept keep n && areKept keep (operandsAt g n))
 
 -- the first m nodes
 abbrev pub areAllowed : List ℕ → List ℕ → ℕ → Bool
 areAllowed g keep m = allPass (isAllowed g keep) m
 
 -- keep list and mapping have one element for each node, and each node is allowed
-unfoldable pub isChoice : List ℕ → List ℕ → List ℕ → Bool
-isChoice g keep mapping = both (eqb (length keep) (countOf g)) (both (eqb (length mapping) (countOf g)) (areAllowed g keep (countOf g)))
+unfoldable pub isKeepList : List ℕ → List ℕ → List ℕ → Bool
+isKeepList g keep mapping = eqb (length keep) (countOf g) && (eqb (length mapping) (countOf g) && areAllowed g keep (countOf g))
 
 -- ---- the mapping
 
@@ -72,11 +72,11 @@ newIds keep (suc m) = newIds keep m ++ (newId keep m ∷ [])
 abbrev pub through : (ℕ → ℕ) → Bool → ℕ → ℕ
 through f isOperand word = cond isOperand (f word) word
 
--- the words of node n, its operands read through f, without an alias
+-- the words of node n: its operands read through f, and past the key those of a node without an alias
 unfoldable pub movedWords : (ℕ → ℕ) → List ℕ → ℕ → List ℕ
 movedWords f g n =
-    wordAt g n 0 ∷ wordAt g n 1 ∷ wordAt g n 2 ∷ wordAt g n 3 ∷ wordAt g n 4 ∷ wordAt g n 5 ∷ wordAt g n 6 ∷ wordAt g n 7
-    ∷ through f (hasFirst (wordAt g n 7)) (wordAt g n 8) ∷ through f (hasSecond (wordAt g n 7)) (wordAt g n 9) ∷ wordAt g n 10 ∷ 0 ∷ []
+    wordsFrom g n 0 X
+    ++ (through f (hasFirst (wordAt g n OPERATION)) (wordAt g n X) ∷ through f (hasSecond (wordAt g n OPERATION)) (wordAt g n Y) ∷ wordAt g n Z ∷ PAST)
 
 -- the region with node n moved to place m, its operands read through a mapping
 abbrev pub moved : List ℕ → List ℕ → ℕ → ℕ → List ℕ

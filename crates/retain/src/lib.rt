@@ -1,5 +1,5 @@
 // Retain: the kept nodes move down in order, their operands renumbered and their aliases cleared.
-pub mod choice;
+pub mod keep_list;
 
 ghost use mathlib.Core.Bool.{true, cond};
 ghost use mathlib.Core.Path.{_≡_};
@@ -7,16 +7,20 @@ ghost use Prim.Native.Nat.{suc, _<_};
 ghost use lib.ListN.{length, getD, set};
 ghost use Rattle.graph.specs.Layout.{REGION, LIMIT, countOf};
 ghost use Rattle.graph.specs.WellFormed.{isGraph};
-ghost use Rattle.retain.specs.Retain.{DROPPED, isKept, isChoice, keptBelow, newIds, through, movedWords, moved, retained};
-use choice::has_first;
-use choice::has_second;
+ghost use Rattle.retain.specs.Retain.{DROPPED, isKept, isKeepList, keptBelow, newIds, through, movedWords, moved, retained};
 use graph::clear::clear_from;
 use graph::insert::store;
 use graph::layout::FIRST;
+use graph::layout::OPERATION;
 use graph::layout::SIZE;
 use graph::layout::WORDS;
+use graph::layout::X;
+use graph::layout::Y;
+use graph::layout::Z;
 use graph::layout::count;
 use graph::layout::word_at;
+use keep_list::has_first;
+use keep_list::has_second;
 
 // What a dropped node maps to.
 pub const DROPPED: u64 = u64::MAX;
@@ -41,21 +45,17 @@ fn moved_words(g: &[u64], mapping: &[u64], node: u64) -> [u64; SIZE]
     requires { ⌜ length (now g) ≡ REGION ⌝ }
     ensures { λ r. ⌜ r ≡ movedWords (λ i. getD (now (mapping .entry)) i DROPPED) (now (g .entry)) node ⌝ }
 {
-    let code = word_at(g, node, 7);
-    [
-        word_at(g, node, 0),
-        word_at(g, node, 1),
-        word_at(g, node, 2),
-        word_at(g, node, 3),
-        word_at(g, node, 4),
-        word_at(g, node, 5),
-        word_at(g, node, 6),
-        code,
-        renumbered(mapping, has_first(code), word_at(g, node, 8)),
-        renumbered(mapping, has_second(code), word_at(g, node, 9)),
-        word_at(g, node, 10),
-        0,
-    ]
+    let mut words = [0; SIZE];
+    let mut k = 0;
+    while k < X {
+        words[k] = word_at(g, node, k);
+        k += 1;
+    }
+    let code = words[OPERATION];
+    words[X] = renumbered(mapping, has_first(code), word_at(g, node, X));
+    words[Y] = renumbered(mapping, has_second(code), word_at(g, node, Y));
+    words[Z] = word_at(g, node, Z);
+    words
 }
 
 fn move_node(g: &mut [u64], mapping: &[u64], node: u64, to: u64)
@@ -83,7 +83,7 @@ fn place(g: &mut [u64], keep: &[u8], mapping: &mut [u64], node: u64, next: u64) 
 
 // Moves the kept nodes down and fills the mapping; the number of nodes left. An operand lies below its node, so that its new id is known.
 pub fn retain(g: &mut [u64], keep: &[u8], mapping: &mut [u64]) -> u64
-    requires { ⌜ (isGraph (now g) ≡ true) × (isChoice (now g) (now keep) (now mapping) ≡ true) ⌝ }
+    requires { ⌜ (isGraph (now g) ≡ true) × (isKeepList (now g) (now keep) (now mapping) ≡ true) ⌝ }
     ensures { λ r. ⌜ (r ≡ keptBelow (now (keep .entry)) (countOf (now (g .entry)))) × (now (g .exit) ≡ retained (now (g .entry)) (now (keep .entry))) × (now (mapping .exit) ≡ newIds (now (keep .entry)) (countOf (now (g .entry)))) ⌝ }
 {
     let nodes = count(g);

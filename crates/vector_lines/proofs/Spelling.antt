@@ -11,8 +11,8 @@ use lib.Arith.{digits-lt}
 use lib.Dec.{eqb, ltb, leb}
 use lib.ListN.{length, getD, take, drop, take-append-drop, length-drop}
 use lib.Seq.{drop-cons, take-all, length-take-le}
+use Rattle.word.specs.Option.{provided}
 use Rattle.io.specs.Digits.{digits, glyph}
-use Rattle.word.specs.Value.{provided}
 use Rattle.vector_lines.specs.Text.{digitValue, spelledAfter, spelled, hexDigits}
 
 -- ---- a number grows by a digit
@@ -69,7 +69,7 @@ spelled-raised h j n (b ∷ l) =
     (provided-raised (ltb d 16) (h * 16 ^ suc (j + length l)) (spelledAfter (n * 16 + d) l))
 
 -- two numbers of 64 bits as one
-abbrev pub joined : Option ℕ → Option ℕ → Option ℕ
+abbrev joined : Option ℕ → Option ℕ → Option ℕ
 joined none o = none
 joined (some h) none = none
 joined (some h) (some l) = some (h * 2 ^ 64 + l)

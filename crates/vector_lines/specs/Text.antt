@@ -5,8 +5,8 @@ use mathlib.Core.Option.{Option, none, some}
 use Prim.Native.Nat.{ℕ, _+_, _-_, _*_}
 use lib.Dec.{leb, ltb}
 use lib.ListN.{length, take, drop}
+use Rattle.word.specs.Option.{provided}
 use Rattle.io.specs.Digits.{digits}
-use Rattle.word.specs.Value.{provided}
 use Rattle.vector_lines.specs.declared.Number.{Number}
 use Rattle.vector_lines.specs.declared.Number.the-variants as number
 

@@ -5,10 +5,10 @@ use mathlib.Core.Logic.{_⊎_, inl, inr, ⊎-elim}
 use Prim.Native.Nat.{ℕ, zero, suc, _+_, _*_, _/_, _%_, _^_, _<_, _≤_}
 use native.Mathlib.Nat.{zero-add, suc-add, mul-one, mul-comm, mul-le-mul-right, suc-mul, pow-suc}
 use native.Mathlib.Omega.{arith}
-use borrow.Author.Tests.{eq-eqb, eqb-true}
+use borrow.Author.Tests.{eqb-true}
 use lib.Bits.{block-half, block-odd, shifted-half, shifted-even}
-use lib.Count.{leadingZeros, trailingZeros, ones, under, leading-top, leading-length, leading-unique, ones-step, ones-cat}
-use lib.Pow.{pow-add, pow-pos}
+use lib.Count.{leadingZeros, trailingZeros, ones, under, leading-top, leading-length, leading-unique, ones-step}
+use lib.Pow.{pow-add}
 use Rattle.word.specs.Value.{isPowerOfTwo}
 use Rattle.word.proofs.Integer.{lt-or-ge}
 
@@ -90,9 +90,3 @@ one-bit (suc d) n h e =
 pub power-of-two : (n : ℕ) → isPowerOfTwo n ≡ true → (k : ℕ) × (n ≡ 2 ^ k)
 unfolding isPowerOfTwo
 power-of-two n t = one-bit n n (omega arith) (eqb-true (ones n) 1 t)
-
-pub is-power-of-two : (k : ℕ) → isPowerOfTwo (2 ^ k) ≡ true
-unfolding isPowerOfTwo ones
-is-power-of-two k =
-    let e : 2 ^ k ≡ 1 * 2 ^ k + 0 = omega arith in
-    eq-eqb (ones (2 ^ k)) 1 (ap ones e ∙ ones-cat k 1 0 (pow-pos k))

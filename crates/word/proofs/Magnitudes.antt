@@ -10,8 +10,9 @@ use lib.Dec.{ltb}
 use lib.IntN.{ℤ, pos, negsuc, natAbs, negℤ, _*ℤ_}
 use lib.Pow.{pow-pos}
 use lib.Signed.{mag, mag-rem, quotZ, remZ, shrZ}
-use Rattle.word.specs.Value.{residue, signed, fits, fitted, isNeg, only, quotient, remainder}
+use Rattle.word.specs.Value.{residue, signed, fits, fitted, isNeg, quotient, remainder}
 use Rattle.word.specs.Step.{withSign, differ}
+use Rattle.word.specs.Option.{only}
 use Rattle.word.proofs.Halves.{pred-sub}
 use Rattle.word.proofs.Integer.{signed-low, residue-pos, residue-negsuc, residue-neg, signed-residue}
 use Rattle.word.proofs.Sums.{yes-fitted, not-fitted, under-twice, flip-low}

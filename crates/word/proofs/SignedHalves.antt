@@ -69,13 +69,13 @@ int-mag s f = subst (λ (z : ℤ). mag z < 2 ^ 127) (sym (int-joined s (f .low))
 half-lt : {n : ℕ} → n < 2 ^ 63 → n < 2 ^ 64
 half-lt h = omega arith
 
-turned : (l : ℕ) → l < 2 ^ 64 → l ≡ 2 ^ 64 - suc (2 ^ 64 - 1 - l)
-turned l f = omega arith
+complement-back : (l : ℕ) → l < 2 ^ 64 → l ≡ 2 ^ 64 - suc (2 ^ 64 - 1 - l)
+complement-back l f = omega arith
 
 joined-bits : (h : ℤ) (l : ℕ) → mag h < 2 ^ 63 → l < 2 ^ 64 → ofZ w64 h * 2 ^ 64 + l ≡ residue 128 (joined h l)
 joined-bits (pos h) l f g = sym (residue-pos 128 (h * 2 ^ 64 + l) (two-halves 64 {h = h} {l = l} (half-lt f) g))
 joined-bits (negsuc h) l f g =
-    ap (λ (n : ℕ). (2 ^ 64 - suc h) * 2 ^ 64 + n) (turned l g) ∙ complement-halves 64 h (2 ^ 64 - 1 - l) (half-lt f) (omega arith)
+    ap (λ (n : ℕ). (2 ^ 64 - suc h) * 2 ^ 64 + n) (complement-back l g) ∙ complement-halves 64 h (2 ^ 64 - 1 - l) (half-lt f) (omega arith)
     ∙ sym (residue-negsuc 128 (h * 2 ^ 64 + (2 ^ 64 - 1 - l)) (two-halves 64 {h = h} {l = 2 ^ 64 - 1 - l} (half-lt f) (omega arith)))
 
 -- the pattern of a signed word has the bits of its halves

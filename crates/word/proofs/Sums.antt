@@ -9,18 +9,19 @@ use native.Mathlib.Omega.{arith}
 use borrow.Author.Tests.{lt-ltb, le-ltb}
 use lib.IntN.{ℤ, pos, negsuc, natAbs, negℤ, _+ℤ_, _-ℤ_}
 use lib.Signed.{mag}
-use Rattle.word.specs.Value.{residue, signed, wrapped, fits, fitted, isNeg, only}
+use Rattle.word.specs.Value.{residue, signed, wrapped, fits, fitted, isNeg}
 use Rattle.word.specs.Step.{agrees, unlessWrapped}
+use Rattle.word.specs.Option.{only}
 use Rattle.word.proofs.Integer.{Difference, difference-add, difference-neg, signed-low, signed-high, residue-pos, residue-negsuc, signed-residue, lt-or-ge}
 use Rattle.word.proofs.SignedHalves.{minus-one, flip}
 
 -- ---- what fits
 
-pub yes-fits : (z : ℤ) → mag z < 2 ^ 127 → fits z ≡ true
+yes-fits : (z : ℤ) → mag z < 2 ^ 127 → fits z ≡ true
 unfolding fits
 yes-fits z h = lt-ltb (mag z) (2 ^ 127) h
 
-pub not-fits : (z : ℤ) → 2 ^ 127 ≤ mag z → fits z ≡ false
+not-fits : (z : ℤ) → 2 ^ 127 ≤ mag z → fits z ≡ false
 unfolding fits
 not-fits z h = le-ltb (mag z) (2 ^ 127) h
 
@@ -30,15 +31,15 @@ yes-fitted z h = rw (yes-fits z h)
 pub not-fitted : (z : ℤ) → 2 ^ 127 ≤ mag z → none ≡ fitted z
 not-fitted z h = rw (not-fits z h)
 
-pub wrapped-fits : (z : ℤ) → mag z < 2 ^ 127 → wrapped z ≡ z
+wrapped-fits : (z : ℤ) → mag z < 2 ^ 127 → wrapped z ≡ z
 unfolding wrapped
 wrapped-fits z h = signed-residue 128 z (omega arith) h
 
 -- ---- what wraps turns its sign. H is half of the numbers of the width
 
 module _ (H : ℕ) where
-  pub twice : (n : ℕ) → H ≤ n → n < H + H → H + H - suc n < H
-  twice n f g = omega arith
+  complement-low : (n : ℕ) → H ≤ n → n < H + H → H + H - suc n < H
+  complement-low n f g = omega arith
 
   pub under-twice : {n : ℕ} → n < H → n < H + H
   under-twice f = omega arith
@@ -47,7 +48,7 @@ wrapped-turns : (z : ℤ) → 2 ^ 127 ≤ mag z → mag z < 2 ^ 128 → isNeg (w
 unfolding wrapped
 wrapped-turns (pos n) f g = ap (λ (x : ℕ). isNeg (signed 128 x)) (residue-pos 128 n g) ∙ ap isNeg (signed-high 128 n f g)
 wrapped-turns (negsuc n) f g =
-    ap (λ (x : ℕ). isNeg (signed 128 x)) (residue-negsuc 128 n g) ∙ ap isNeg (signed-low 128 (2 ^ 128 - suc n) (twice (2 ^ 127) n f g))
+    ap (λ (x : ℕ). isNeg (signed 128 x)) (residue-negsuc 128 n g) ∙ ap isNeg (signed-low 128 (2 ^ 128 - suc n) (complement-low (2 ^ 127) n f g))
 
 -- ---- the signs of two summands, and what their sum then may be
 

@@ -1,2 +1,3 @@
+pub mod Option
 pub mod Value
 pub mod Step

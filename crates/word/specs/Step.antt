@@ -3,7 +3,8 @@ use mathlib.Core.Bool.{Bool, true, false, not}
 use mathlib.Core.Option.{Option}
 use Prim.Native.Nat.{ℕ}
 use lib.IntN.{ℤ, pos, negℤ}
-use Rattle.word.specs.Value.{isNeg, only}
+use Rattle.word.specs.Value.{isNeg}
+use Rattle.word.specs.Option.{only}
 
 -- may a sum of two integers with the first two signs come out with the third one?
 abbrev pub agrees : Bool → Bool → Bool → Bool

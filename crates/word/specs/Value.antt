@@ -6,6 +6,7 @@ use lib.Dec.{ltb, eqb}
 use lib.Count.{ones}
 use lib.IntN.{ℤ, pos, negsuc, natAbs, _+ℤ_, _-ℤ_, _*ℤ_}
 use lib.Signed.{mag, ltZ, quotZ, remZ}
+use Rattle.word.specs.Option.{only, provided}
 use Rattle.word.specs.declared.Word.{Word}
 use Rattle.word.specs.declared.Signed.{Signed}
 use Rattle.word.specs.declared.MaybeWord.{MaybeWord}
@@ -37,15 +38,6 @@ wrapped z = signed 128 (residue 128 z)
 -- is z from -(2 ^ 127) to 2 ^ 127 - 1? (`mag` of n and of -(n + 1) is n)
 unfoldable pub fits : ℤ → Bool
 fits z = ltb (mag z) (2 ^ 127)
-
--- an answer if a test holds, else none
-abbrev pub provided : {A : Type 0} → Bool → Option A → Option A
-provided true o = o
-provided false o = none
-
--- a value if a test holds, else none
-abbrev pub only : {A : Type 0} → Bool → A → Option A
-only t a = provided t (some a)
 
 -- z if it is an integer of 128 bits, else none
 abbrev pub fitted : ℤ → Option ℤ

@@ -1,6 +1,7 @@
 // The calls and their answers.
 use crate::native::{Binary, Range, ScalarType, Unary};
 use crate::operators::{self, BINARY_CODE, UNARY_CODE};
+use crate::words::WORDS;
 
 // A type by its code and width, as a region has it.
 #[derive(Clone, Copy, Debug, PartialEq, Eq)]
@@ -81,7 +82,33 @@ pub enum Call {
         left: u128,
         right: u128,
     },
+    // `room` is the number of words lent for the node's.
+    Node {
+        id: u64,
+        room: usize,
+    },
+    // These look at no region. `room` is the number of words lent for the value.
+    EvaluateUnary {
+        op: u64,
+        parameter: u64,
+        value: u128,
+        room: usize,
+    },
+    EvaluateBinary {
+        op: u64,
+        ty: TypeCode,
+        left: u128,
+        right: u128,
+        room: usize,
+    },
+    Mask {
+        width: u64,
+        room: usize,
+    },
 }
+
+// The number of words of a value, low half first.
+pub const VALUE_WORDS: usize = 2;
 
 // The number of words of a guard: the operator's code, both ids, and what is expected and whether 64 bits suffice.
 pub const GUARD_WORDS: usize = 5;
@@ -98,6 +125,9 @@ pub enum Answer {
     // A guard is assumed.
     Done,
     Guard([u64; GUARD_WORDS]),
+    Node([u64; WORDS]),
+    // The lent words have another number than what was to be written.
+    WrongLength,
     // A lent word outside the region was changed that had to stay.
     Spoilt,
 }
@@ -159,8 +189,9 @@ impl From<ScalarType> for TypeCode {
     }
 }
 
-// The kinds of calls by their names.
-pub const KINDS: [&str; 14] = [
+// The kinds of calls by their names. The last four are called with any numbers alone.
+pub const LISTED: usize = 14;
+pub const KINDS: [&str; LISTED + 4] = [
     "constant",
     "input",
     "effect",
@@ -175,6 +206,10 @@ pub const KINDS: [&str; 14] = [
     "assume guard",
     "guard",
     "matches",
+    "node",
+    "evaluate unary",
+    "evaluate binary",
+    "mask",
 ];
 
 impl Call {
@@ -194,6 +229,10 @@ impl Call {
             Call::AssumeGuard { .. } => 11,
             Call::Guard { .. } => 12,
             Call::Matches { .. } => 13,
+            Call::Node { .. } => 14,
+            Call::EvaluateUnary { .. } => 15,
+            Call::EvaluateBinary { .. } => 16,
+            Call::Mask { .. } => 17,
         };
         KINDS[place]
     }
@@ -204,7 +243,8 @@ impl Call {
             | Call::Input { ty, .. }
             | Call::Effect { ty, .. }
             | Call::Unary { ty, .. }
-            | Call::Binary { ty, .. } => Some(ty),
+            | Call::Binary { ty, .. }
+            | Call::EvaluateBinary { ty, .. } => Some(ty),
             _ => None,
         }
     }
@@ -214,8 +254,12 @@ impl Call {
         let has_type = self.ty().is_none_or(|code| code.ty().is_some());
         has_type
             && match *self {
-                Call::Unary { op, parameter, .. } => unary_of(op, parameter).is_some(),
-                Call::Binary { op, .. } => binary_of(op).is_some(),
+                Call::Unary { op, parameter, .. } | Call::EvaluateUnary { op, parameter, .. } => {
+                    unary_of(op, parameter).is_some()
+                }
+                Call::Binary { op, .. } | Call::EvaluateBinary { op, .. } => {
+                    binary_of(op).is_some()
+                }
                 Call::AssumeGuard { expected, .. } | Call::Guard { expected, .. } => expected <= 1,
                 Call::Matches {
                     op,
@@ -227,12 +271,30 @@ impl Call {
             }
     }
 
-    // The widths that it names, that of Bits first and else 0.
+    // Does it look at a region?
+    pub fn has_region(&self) -> bool {
+        !matches!(
+            self,
+            Call::Matches { .. }
+                | Call::EvaluateUnary { .. }
+                | Call::EvaluateBinary { .. }
+                | Call::Mask { .. }
+        )
+    }
+
+    // Has it a twin for a region that is known to be a graph?
+    pub fn has_twin(&self) -> bool {
+        self.has_region() && !matches!(self, Call::IsGraph)
+    }
+
+    // The widths that it names, that of the type first, whatever its code is.
     pub fn widths(&self) -> [u64; 3] {
         let of_type = self.ty().map_or(0, |ty| ty.width);
         match *self {
-            Call::Unary { parameter, .. } => [of_type, parameter, 0],
-            Call::Slice { width, .. } => [of_type, width, 0],
+            Call::Unary { parameter, .. } | Call::EvaluateUnary { parameter, .. } => {
+                [of_type, parameter, 0]
+            }
+            Call::Slice { width, .. } | Call::Mask { width, .. } => [of_type, width, 0],
             Call::Concat {
                 low_width, width, ..
             } => [of_type, low_width, width],
@@ -256,6 +318,7 @@ impl Call {
         match self {
             Call::Literal { id, .. }
             | Call::Resolve { id }
+            | Call::Node { id, .. }
             | Call::Unary { id, .. }
             | Call::Slice { id, .. }
             | Call::UnsignedRange { id, .. } => vec![id],
@@ -263,6 +326,77 @@ impl Call {
             Call::Binary { left, right, .. } => vec![left, right],
             Call::Concat { high, low, .. } => vec![high, low],
             _ => vec![],
+        }
+    }
+
+    // The numbers of a call with a type: the type's two first.
+    fn typed_numbers_mut(&mut self) -> Option<Vec<&mut u64>> {
+        let (ty, others) = match self {
+            Call::Constant { ty, .. } => (ty, vec![]),
+            Call::Input { number, ty, .. } | Call::Effect { number, ty } => (ty, vec![number]),
+            Call::Unary {
+                ty,
+                op,
+                parameter,
+                id,
+            } => (ty, vec![op, parameter, id]),
+            Call::Binary {
+                ty,
+                op,
+                left,
+                right,
+            } => (ty, vec![op, left, right]),
+            Call::EvaluateBinary { op, ty, .. } => (ty, vec![op]),
+            _ => return None,
+        };
+        let TypeCode { code, width } = ty;
+        Some([code, width].into_iter().chain(others).collect())
+    }
+
+    // Every number but the values: its codes, widths, parameters, ids and truth values.
+    pub fn numbers_mut(&mut self) -> Vec<&mut u64> {
+        if self.ty().is_some() {
+            return self.typed_numbers_mut().unwrap_or_default();
+        }
+        match self {
+            Call::EvaluateUnary { op, parameter, .. } => vec![op, parameter],
+            Call::Mask { width, .. } => vec![width],
+            Call::Slice { id, offset, width } => vec![id, offset, width],
+            Call::Concat {
+                high,
+                low,
+                low_width,
+                width,
+            } => vec![high, low, low_width, width],
+            Call::AssumeGuard {
+                condition,
+                expected,
+            }
+            | Call::Guard {
+                condition,
+                expected,
+                ..
+            } => vec![condition, expected],
+            Call::Matches {
+                op,
+                expected,
+                host64,
+                ..
+            } => vec![op, expected, host64],
+            _ => self.ids_mut(),
+        }
+    }
+
+    // The number of lent words, where it lends some.
+    pub fn room_mut(&mut self) -> Option<&mut usize> {
+        match self {
+            Call::Literal { room, .. }
+            | Call::Guard { room, .. }
+            | Call::Node { room, .. }
+            | Call::EvaluateUnary { room, .. }
+            | Call::EvaluateBinary { room, .. }
+            | Call::Mask { room, .. } => Some(room),
+            _ => None,
         }
     }
 

@@ -35,13 +35,15 @@ pub fn kind_of(class: &str) -> Kind {
 pub type Outcome = Result<(), String>;
 
 // A region that calls have grown, and the graph that the original has grown beside it.
-struct List {
-    region: Vec<u64>,
-    graph: Graph,
+pub struct List {
+    pub region: Vec<u64>,
+    pub graph: Graph,
 }
 
 pub struct Rounds {
     pub source: Source,
+    // For the calls with any numbers.
+    pub numbers: Source,
     pub comparison: Comparison,
     // How often a word of each kind was changed, and how often the region was no graph then.
     pub damages: Vec<[u64; 2]>,
@@ -73,7 +75,7 @@ impl Rounds {
         self.begin(class, Graph::default())
     }
 
-    fn call_on(&mut self, list: &mut List, call: &Call) -> Result<Answer, String> {
+    pub fn call_on(&mut self, list: &mut List, call: &Call) -> Result<Answer, String> {
         let List { region, graph } = list;
         self.comparison.call_grown(region, graph, call)
     }
@@ -88,7 +90,7 @@ impl Rounds {
     }
 
     // The original's own maps are those that are filled from the region, and its words those compared.
-    fn end(&mut self, list: &List) {
+    pub fn end(&mut self, list: &List) {
         let filled = graph_of(&list.region).expect("a grown region is a graph");
         assert!(
             opened::has_same_maps(&list.graph, &filled),
@@ -129,7 +131,11 @@ impl Rounds {
             self.grow(&mut list, 30, Spread::Few)?;
         }
         self.end(&list);
-        self.retains_on(GROWN, &list.region)
+        self.retains_on(GROWN, &list.region)?;
+        if self.source.has_numbers {
+            self.numbers_in(&mut list)?;
+        }
+        Ok(())
     }
 
     // A retain in the midst of a list that keeps every node, or nearly every one, and the guards before it again:
@@ -375,6 +381,9 @@ impl Rounds {
                 Step::Look(_) => {}
             }
         }
+        if self.source.has_numbers {
+            self.choices()?;
+        }
         Ok(())
     }
 
@@ -395,6 +404,9 @@ impl Rounds {
         let good = self.good_region();
         for _ in 0..8 {
             self.damage(&good)?;
+        }
+        if self.source.has_numbers {
+            self.numbers()?;
         }
         self.other_length()
     }

@@ -32,6 +32,8 @@ pub struct Comparison {
     // The side's tier for regions that are known to be graphs, and whether the list at hand is put to it.
     pub twin: Option<Box<dyn Side>>,
     pub is_twin: bool,
+    // Whether each call is put to both tiers.
+    pub has_both: bool,
     pub counts: BTreeMap<&'static str, Counts>,
     // The retains by class and kind.
     pub retains: BTreeMap<&'static str, BTreeMap<&'static str, u64>>,
@@ -85,6 +87,8 @@ fn name_of(count: u64, call: &Call, answer: Answer) -> &'static str {
         (_, Answer::Refused(number)) => REFUSALS[number as usize],
         (_, Answer::Done) => narrowed(),
         (_, Answer::Guard(_)) => "guard",
+        (_, Answer::Node(_)) => "node's words",
+        (_, Answer::WrongLength) => "wrong length",
         (Call::Matches { .. }, Answer::Is(true)) => "matches",
         (Call::Matches { .. }, Answer::Is(false)) => "does not match",
         (_, Answer::Is(true)) => "is a graph",
@@ -143,6 +147,7 @@ impl Comparison {
             side,
             twin,
             is_twin: false,
+            has_both: false,
             counts: BTreeMap::new(),
             retains: BTreeMap::new(),
             class: "",
@@ -166,7 +171,9 @@ impl Comparison {
 
     fn count(&mut self, call: &Call, answer: Answer, before: u64) {
         let name = match answer {
-            Answer::None if self.right.first() != Some(&before) => "none, nodes kept",
+            Answer::None if self.right.first().is_some_and(|now| *now != before) => {
+                "none, nodes kept"
+            }
             Answer::Refused(7) if meter::aliases() > 0 => TAKEN_BACK,
             Answer::Refused(7) if meter::stored() > 0 => "refused 7, nodes taken back",
             Answer::Refused(8) if meter::stored() > 0 => "refused 8, nodes taken back",
@@ -201,8 +208,28 @@ impl Comparison {
         }
     }
 
-    // Compares the call on the region with what the original answers and leaves in `self.right`.
+    // Compares the call on the region with what the original answers and leaves in `self.right`; if so wanted, in both
+    // tiers.
     fn settle(
+        &mut self,
+        region: &mut [u64],
+        call: &Call,
+        right: Answer,
+        count: u64,
+    ) -> Result<Answer, String> {
+        let has_other = self.has_both && self.twin.is_some() && call.has_twin();
+        let other = (has_other && right != Answer::Refused(1)).then(|| region.to_vec());
+        self.settle_one(region, call, right, count)?;
+        if let Some(mut region) = other {
+            self.is_twin = !self.is_twin;
+            self.settle_one(&mut region, call, right, count)?;
+            self.is_twin = !self.is_twin;
+        }
+        Ok(right)
+    }
+
+    // Compares the call on the region in the tier of the list.
+    fn settle_one(
         &mut self,
         region: &mut [u64],
         call: &Call,

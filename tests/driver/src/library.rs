@@ -1,6 +1,6 @@
 // The proved library's side, through the functions that it exports.
-use crate::call::{Answer, Call, GUARD_WORDS, Side};
-use crate::words::{MARK, halves, joined};
+use crate::call::{Answer, Call, Side};
+use crate::words::{MARK, WORDS, halves, joined};
 
 // The functions that have a twin for a caller that knows the region to be a graph.
 #[derive(Clone, Copy)]
@@ -15,7 +15,14 @@ struct Tier {
     unsigned_range: unsafe extern "C" fn(*mut u64, usize, u64, u64, u64, u64, u64) -> u64,
     assume_guard: unsafe extern "C" fn(*mut u64, usize, u64, u64) -> u64,
     retain: Retain,
+    literal: Reader,
+    resolve: unsafe extern "C" fn(*const u64, usize, u64) -> u64,
+    node: Reader,
+    guard: unsafe extern "C" fn(*const u64, usize, u64, u64, *mut u64, usize) -> u64,
 }
+
+// A call about one node that writes lent words.
+type Reader = unsafe extern "C" fn(*const u64, usize, u64, *mut u64, usize) -> u64;
 
 type Retain = unsafe extern "C" fn(*mut u64, usize, *const u8, usize, *mut u64, usize) -> u64;
 
@@ -63,18 +70,35 @@ macro_rules! retains {
 
 retains! { scalars_retain scalars_retain_in_graph }
 
+macro_rules! readers {
+    ($($name:ident ($($word:ident),*);)*) => {
+        unsafe extern "C" {
+            $(
+                fn $name(
+                    g: *const u64,
+                    len: usize,
+                    $($word: u64,)*
+                    out: *mut u64,
+                    out_len: usize,
+                ) -> u64;
+            )*
+        }
+    };
+}
+
+readers! {
+    scalars_literal (id);
+    scalars_literal_in_graph (id);
+    scalars_node (id);
+    scalars_node_in_graph (id);
+    scalars_guard (condition, expected);
+    scalars_guard_in_graph (condition, expected);
+}
+
 unsafe extern "C" {
-    fn scalars_literal(g: *const u64, len: usize, id: u64, out: *mut u64, out_len: usize) -> u64;
     fn scalars_resolve(g: *const u64, len: usize, id: u64) -> u64;
+    fn scalars_resolve_in_graph(g: *const u64, len: usize, id: u64) -> u64;
     fn scalars_is_graph(g: *const u64, len: usize) -> u64;
-    fn scalars_guard(
-        g: *const u64,
-        len: usize,
-        condition: u64,
-        expected: u64,
-        out: *mut u64,
-        out_len: usize,
-    ) -> u64;
     fn scalars_matches(
         operator: u64,
         expected: u64,
@@ -84,6 +108,26 @@ unsafe extern "C" {
         right_low: u64,
         right_high: u64,
     ) -> u64;
+    fn scalars_evaluate_unary(
+        operator: u64,
+        parameter: u64,
+        low: u64,
+        high: u64,
+        out: *mut u64,
+        out_len: usize,
+    ) -> u64;
+    fn scalars_evaluate_binary(
+        operator: u64,
+        code: u64,
+        width: u64,
+        left_low: u64,
+        left_high: u64,
+        right_low: u64,
+        right_high: u64,
+        out: *mut u64,
+        out_len: usize,
+    ) -> u64;
+    fn scalars_mask(width: u64, out: *mut u64, out_len: usize) -> u64;
 }
 
 const ASKING: Tier = Tier {
@@ -97,6 +141,10 @@ const ASKING: Tier = Tier {
     unsigned_range: scalars_unsigned_range,
     assume_guard: scalars_assume_guard,
     retain: scalars_retain,
+    literal: scalars_literal,
+    resolve: scalars_resolve,
+    node: scalars_node,
+    guard: scalars_guard,
 };
 
 const IN_GRAPH: Tier = Tier {
@@ -110,12 +158,25 @@ const IN_GRAPH: Tier = Tier {
     unsigned_range: scalars_unsigned_range_in_graph,
     assume_guard: scalars_assume_guard_in_graph,
     retain: scalars_retain_in_graph,
+    literal: scalars_literal_in_graph,
+    resolve: scalars_resolve_in_graph,
+    node: scalars_node_in_graph,
+    guard: scalars_guard_in_graph,
 };
 
 // What a guard that is assumed answers.
 const DONE: u64 = 1 << 63;
+// The answer where lent words have another number than what is to be written.
+const WRONG_LENGTH: u64 = (1 << 63) + 1;
+
+// The most words that are there of those lent, and the words after them, which no call may change.
+const MOST: usize = 4096;
+const PAST: usize = 16;
 
 fn answer_of(number: u64) -> Answer {
+    if number == WRONG_LENGTH {
+        return Answer::WrongLength;
+    }
     match u64::MAX - number {
         0 => Answer::None,
         refusal @ 1..=8 => Answer::Refused(refusal),
@@ -123,49 +184,32 @@ fn answer_of(number: u64) -> Answer {
     }
 }
 
-// The value in the lent words, which stay as they were unless there is one.
-fn literal(region: &[u64], id: u64, room: usize) -> Answer {
-    let mut out = vec![MARK; room];
-    // SAFETY: both slices are passed whole, and the function asks nothing else of its caller.
-    let number = unsafe {
-        scalars_literal(
-            region.as_ptr(),
-            region.len(),
-            id,
-            out.as_mut_ptr(),
-            out.len(),
-        )
-    };
-    if number == 1 && room == 2 {
-        return Answer::Value(joined(out[0], out[1]));
+// Lends so many words to a call that answers 1 where it has written as many as it has to. Else all must stay as they
+// were, and the words past them always. Of a slice longer than `MOST` only the first words are there: a call looks at
+// its length alone, and that these stay is seen too.
+fn lent<const WRITTEN: usize>(
+    room: usize,
+    call: impl FnOnce(*mut u64, usize) -> u64,
+) -> Result<[u64; WRITTEN], Answer> {
+    let mut out = vec![MARK; room.min(MOST) + PAST];
+    let number = call(out.as_mut_ptr(), room);
+    let is_written = number == 1 && room == WRITTEN;
+    let written = if is_written { WRITTEN } else { 0 };
+    if out[written..].iter().any(|word| *word != MARK) {
+        return Err(Answer::Spoilt);
     }
-    if out.iter().any(|word| *word != MARK) {
-        return Answer::Spoilt;
+    match out.first_chunk() {
+        Some(words) if is_written => Ok(*words),
+        _ => Err(answer_of(number)),
     }
-    answer_of(number)
 }
 
-// The guard in the lent words, which stay as they were unless there is one.
-fn guard(region: &[u64], condition: u64, expected: u64, room: usize) -> Answer {
-    let mut out = vec![MARK; room];
-    // SAFETY: both slices are passed whole, and the function asks nothing else of its caller.
-    let number = unsafe {
-        scalars_guard(
-            region.as_ptr(),
-            region.len(),
-            condition,
-            expected,
-            out.as_mut_ptr(),
-            out.len(),
-        )
-    };
-    if number == 1 && room == GUARD_WORDS {
-        return Answer::Guard([0, 1, 2, 3, 4].map(|place| out[place]));
+// The value in two lent words.
+fn lent_value(room: usize, call: impl FnOnce(*mut u64, usize) -> u64) -> Answer {
+    match lent(room, call) {
+        Ok([low, high]) => Answer::Value(joined(low, high)),
+        Err(answer) => answer,
     }
-    if out.iter().any(|word| *word != MARK) {
-        return Answer::Spoilt;
-    }
-    answer_of(number)
 }
 
 // Whether two values match, for each number that the call may have.
@@ -179,6 +223,40 @@ fn matches(op: u64, expected: u64, host64: u64, left: u128, right: u128) -> Answ
     }
 }
 
+// The evaluators and the mask, which look at no region.
+fn evaluated(call: &Call) -> Option<Answer> {
+    // SAFETY: the lent words are passed whole, and else the functions take numbers alone.
+    Some(match *call {
+        Call::EvaluateUnary {
+            op,
+            parameter,
+            value,
+            room,
+        } => {
+            let [low, high] = halves(value);
+            lent_value(room, |out, len| unsafe {
+                scalars_evaluate_unary(op, parameter, low, high, out, len)
+            })
+        }
+        Call::EvaluateBinary {
+            op,
+            ty,
+            left,
+            right,
+            room,
+        } => {
+            let ([a, b], [c, d]) = (halves(left), halves(right));
+            lent_value(room, |out, len| unsafe {
+                scalars_evaluate_binary(op, ty.code, ty.width, a, b, c, d, out, len)
+            })
+        }
+        Call::Mask { width, room } => {
+            lent_value(room, |out, len| unsafe { scalars_mask(width, out, len) })
+        }
+        _ => return None,
+    })
+}
+
 impl Tier {
     // SAFETY: the caller of the twins makes the region a graph. The slice is passed whole.
     unsafe fn leaf(&self, region: &mut [u64], call: &Call) -> Option<u64> {
@@ -189,9 +267,10 @@ impl Tier {
                 unsafe { (self.constant)(g, len, ty.code, ty.width, low, high) }
             }
             Call::Input { number, ty, range } => {
-                let [a, b] = halves(range.map_or(0, |range| range.min as u128));
-                let [c, d] = halves(range.map_or(0, |range| range.max as u128));
-                let flag = range.is_some().into();
+                // Any flag but 0 says that there is a range, and without one its words are not looked at.
+                let [a, b] = range.map_or([number; 2], |range| halves(range.min as u128));
+                let [c, d] = range.map_or([number; 2], |range| halves(range.max as u128));
+                let flag = range.map_or(0, |_| number.max(1));
                 unsafe { (self.input)(g, len, number, ty.code, ty.width, flag, a, b, c, d) }
             }
             Call::Effect { number, ty } => unsafe {
@@ -253,25 +332,42 @@ impl Tier {
     }
 
     // SAFETY: as for the leaves.
+    unsafe fn read(&self, region: &[u64], call: &Call) -> Option<Answer> {
+        let (g, len) = (region.as_ptr(), region.len());
+        Some(match *call {
+            Call::Literal { id, room } => lent_value(room, |out, out_len| unsafe {
+                (self.literal)(g, len, id, out, out_len)
+            }),
+            Call::Node { id, room } => lent::<WORDS>(room, |out, out_len| unsafe {
+                (self.node)(g, len, id, out, out_len)
+            })
+            .map_or_else(|answer| answer, Answer::Node),
+            Call::Guard {
+                condition,
+                expected,
+                room,
+            } => lent(room, |out, out_len| unsafe {
+                (self.guard)(g, len, condition, expected, out, out_len)
+            })
+            .map_or_else(|answer| answer, Answer::Guard),
+            Call::Resolve { id } => answer_of(unsafe { (self.resolve)(g, len, id) }),
+            Call::IsGraph => Answer::Is(unsafe { scalars_is_graph(g, len) } == 1),
+            _ => return None,
+        })
+    }
+
+    // SAFETY: as for the leaves.
     unsafe fn call(&self, region: &mut [u64], call: &Call) -> Answer {
         let number =
             unsafe { self.leaf(region, call) }.or_else(|| unsafe { self.builder(region, call) });
         if let Some(number) = number {
             return answer_of(number);
         }
-        let (g, len) = (region.as_ptr(), region.len());
         match *call {
-            Call::Literal { id, room } => literal(region, id, room),
-            Call::Resolve { id } => answer_of(unsafe { scalars_resolve(g, len, id) }),
             Call::AssumeGuard {
                 condition,
                 expected,
             } => unsafe { self.assumed(region, condition, expected) },
-            Call::Guard {
-                condition,
-                expected,
-                room,
-            } => guard(region, condition, expected, room),
             Call::Matches {
                 op,
                 expected,
@@ -279,7 +375,9 @@ impl Tier {
                 left,
                 right,
             } => matches(op, expected, host64, left, right),
-            _ => Answer::Is(unsafe { scalars_is_graph(g, len) } == 1),
+            _ => unsafe { self.read(region, call) }
+                .or_else(|| evaluated(call))
+                .expect("every call is one of these"),
         }
     }
 }

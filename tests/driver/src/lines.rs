@@ -7,7 +7,7 @@
 //   15 matches: number what is expected, width host64, flag the operator's code, the words the two values. It looks at
 //     no word of the region. Answers `yes` or `no`, or a refusal.
 // The fields that a line does not use are 0. After each of these answers stand the sums of all words, as after others.
-use crate::call::{Answer, Call, GUARD_WORDS, TypeCode};
+use crate::call::{Answer, Call, GUARD_WORDS, TypeCode, VALUE_WORDS};
 use crate::words::{halves, joined};
 
 // The words that the program holds: the region, one word past its end, and the mapping of a retain.
@@ -205,16 +205,18 @@ pub fn retain_line(len: usize, keep: &[u8], mapping: usize) -> Option<String> {
     Some(line.of(ty, element).with(bits[0], bits[1]).text())
 }
 
-// Can a line say it? A line has no place for codes that name nothing, and widths and offsets of 16 bits.
+// Can a line say it? A line has no place for codes that name nothing, and widths and offsets of 16 bits; a node and a
+// value by themselves have none.
 pub fn has_line(call: &Call) -> bool {
     let is_short = |number: &u64| *number < 1 << 16;
     call.is_named()
         && call.widths().iter().all(is_short)
         && match call {
             Call::Slice { offset, .. } => is_short(offset),
-            Call::Literal { room, .. } => *room == 2,
+            Call::Literal { room, .. } => *room == VALUE_WORDS,
             Call::Guard { room, .. } => *room == GUARD_WORDS,
-            _ => true,
+            Call::Node { .. } => false,
+            _ => call.has_region() || matches!(call, Call::Matches { .. }),
         }
 }
 
@@ -291,6 +293,7 @@ pub fn answer_line(answer: Answer, words: &[u64]) -> String {
         Answer::Kept(nodes) => format!("kept {nodes}"),
         Answer::Done => "done".to_string(),
         Answer::Guard(words) => format!("guard {:032x}", packed(words)),
+        Answer::Node(_) | Answer::WrongLength => unreachable!("such a call has no line"),
     };
     format!("{text} {:032x}\n", sums(words))
 }

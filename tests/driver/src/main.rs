@@ -3,6 +3,7 @@
 mod builders;
 mod call;
 mod chains;
+mod choices;
 mod classes;
 mod compare;
 mod edges;
@@ -20,6 +21,7 @@ mod meter;
 mod native {
     include!(concat!(env!("OUT_DIR"), "/metered.rs"));
 }
+mod numbers;
 #[path = "../../original/operators.rs"]
 mod operators;
 mod original;
@@ -95,6 +97,7 @@ fn compare(
     println!("seed {seed:#x}, {rounds} rounds\n");
     let mut all = Rounds {
         source: Source::new(seed, has_numbers),
+        numbers: Source::new(!seed, has_numbers),
         comparison: Comparison::new(side, twin),
         damages: vec![[0; 2]; WORD_KINDS.len()],
     };
@@ -107,7 +110,7 @@ fn compare(
         return ExitCode::FAILURE;
     }
     report::print(&all);
-    let missing = report::missing(&all.comparison);
+    let missing = report::missing(&all);
     if rounds >= WHOLE && !missing.is_empty() {
         println!("NEVER MET: {}", missing.join("; "));
         return ExitCode::FAILURE;

@@ -1,10 +1,12 @@
 // The original's side: the questions that it does not ask, in document 01's order, and then its own work.
-use crate::call::{Answer, Call, GUARD_WORDS, Side, binary_of, short, unary_of};
+use crate::call::{Answer, Call, GUARD_WORDS, Side, VALUE_WORDS, binary_of, short, unary_of};
 use crate::meter;
 use crate::native::linear::{Guard, guard};
 use crate::native::{Binary, Graph, ScalarType, Unary, opened};
+use crate::native::{evaluate_binary, evaluate_unary, mask};
 use crate::words::{
-    binary_code, encode, encode_aliases, encode_from, graph_of, is_range_of, operands,
+    WORDS, binary_code, encode, encode_aliases, encode_from, graph_of, is_range_of, node_words,
+    operands,
 };
 use ScalarType::{Bits, Bool, Integer};
 use std::panic::{AssertUnwindSafe, catch_unwind};
@@ -58,7 +60,7 @@ fn is_matched(operator: Binary, host64: bool) -> bool {
     }
 }
 
-// Question 4. A type code that there is not never gets here.
+// Question 4, of the typing table.
 fn is_typed(graph: &Graph, call: &Call) -> bool {
     let of = |id: u64| graph.scalars[id as usize].ty;
     let result = call.ty().and_then(|code| code.ty());
@@ -105,19 +107,17 @@ fn is_given(call: &Call) -> bool {
     }
 }
 
-// Questions 2 to 5: the number of the first that is answered no. A code that names nothing is refused before them.
+// Questions 2 to 5: the number of the first that is answered no. Widths and ids are asked whatever the codes beside
+// them name; a code that names nothing fails question 4.
 fn refused(graph: &Graph, call: &Call) -> Option<u64> {
     let count = graph.scalars.len() as u64;
-    if !call.is_named() {
-        return Some(4);
-    }
     if call.widths().iter().any(|width| *width > 128) {
         return Some(2);
     }
     if call.ids().iter().any(|id| *id >= count) {
         return Some(3);
     }
-    if !is_typed(graph, call) {
+    if !call.is_named() || !is_typed(graph, call) {
         return Some(4);
     }
     (!is_given(call)).then_some(5)
@@ -125,7 +125,7 @@ fn refused(graph: &Graph, call: &Call) -> Option<u64> {
 
 fn value_of(value: Option<u128>, room: usize) -> Answer {
     match value {
-        Some(_) if room != 2 => Answer::Refused(6),
+        Some(_) if room != VALUE_WORDS => Answer::WrongLength,
         Some(value) => Answer::Value(value),
         None => Answer::None,
     }
@@ -133,7 +133,7 @@ fn value_of(value: Option<u128>, room: usize) -> Answer {
 
 fn guard_of(guard: Option<Guard>, room: usize) -> Answer {
     match guard {
-        Some(_) if room != GUARD_WORDS => Answer::Refused(6),
+        Some(_) if room != GUARD_WORDS => Answer::WrongLength,
         Some(guard) => Answer::Guard([
             binary_code(guard.operation),
             guard.left as u64,
@@ -143,6 +143,35 @@ fn guard_of(guard: Option<Guard>, room: usize) -> Answer {
         ]),
         None => Answer::None,
     }
+}
+
+fn node_of(graph: &Graph, id: usize, room: usize) -> Answer {
+    if room != WORDS {
+        return Answer::WrongLength;
+    }
+    Answer::Node(node_words(&graph.scalars[id], opened::alias(graph, id)))
+}
+
+// The evaluators and the mask.
+fn evaluated(call: &Call) -> Option<Answer> {
+    let ty = call.ty().and_then(|code| code.ty()).unwrap_or(Bool);
+    Some(match *call {
+        Call::EvaluateUnary {
+            op,
+            parameter,
+            value,
+            room,
+        } => value_of(evaluate_unary(unary_of(op, parameter)?, value), room),
+        Call::EvaluateBinary {
+            op,
+            left,
+            right,
+            room,
+            ..
+        } => value_of(evaluate_binary(binary_of(op)?, ty, left, right), room),
+        Call::Mask { width, room } => value_of(Some(mask(short(width))), room),
+        _ => return None,
+    })
 }
 
 // Whether two values are as expected. The operands' ids are not looked at.
@@ -208,7 +237,9 @@ fn work(graph: &mut Graph, call: &Call) -> Answer {
             left,
             right,
         } => matches(op, expected, host64, left, right),
-        _ => built(graph, call).map_or(Answer::None, |id| Answer::Id(id as u64)),
+        Call::Node { id, room } => node_of(graph, id as usize, room),
+        _ => evaluated(call)
+            .unwrap_or_else(|| built(graph, call).map_or(Answer::None, |id| Answer::Id(id as u64))),
     }
 }
 
@@ -265,7 +296,7 @@ impl Side for Original {
     // The maps are filled from the region before the call.
     fn call(&mut self, region: &mut [u64], call: &Call) -> Answer {
         meter::start();
-        if matches!(call, Call::Matches { .. }) {
+        if !call.has_region() {
             return apply(&mut Graph::default(), call);
         }
         let Some(mut graph) = graph_of(region) else {

@@ -241,12 +241,21 @@ fn orders_of_parts() -> impl Iterator<Item = Call> {
     })
 }
 
+// A leaf of each type.
+fn leaves() -> impl Iterator<Item = Call> {
+    TYPES.iter().map(|ty| input(0, *ty, None))
+}
+
+// The calls that grow a graph with leaves and conditions.
+pub fn graph() -> impl Iterator<Item = Call> {
+    leaves().chain(conditions())
+}
+
 pub fn steps() -> Vec<Step> {
     let mut steps = vec![];
     let mut put = |calls: &mut dyn Iterator<Item = Call>| {
         steps.push(Step::Region(vec![0; REGION]));
-        let leaves = TYPES.iter().map(|ty| input(0, *ty, None));
-        steps.extend(leaves.chain(calls).map(|call| Step::Call(REGION, call)));
+        steps.extend(leaves().chain(calls).map(|call| Step::Call(REGION, call)));
     };
     put(&mut unaries());
     put(&mut binaries());

@@ -1,16 +1,18 @@
 // What was compared, as text, and what a whole run must have met.
-use crate::call::KINDS;
+use crate::call::{KINDS, LISTED};
+use crate::choices::CHOICES;
 use crate::classes::{
     DAMAGED, EDGES, FULL, GROWN, GUARDED, LENGTH, OTHER, PASSING, Rounds, SWEPT, kind_of,
 };
 use crate::compare::{Comparison, Counts, NARROWED, TAKEN_BACK};
 use crate::meter::{Kind, hits};
+use crate::numbers::{ANY_EMPTY, ANY_GROWN, ANY_NO_GRAPH, ANY_OTHER, VALUES};
 use crate::regions::WORD_KINDS;
 use crate::retains;
 use crate::sites::{Reach, sites};
 use std::collections::BTreeMap;
 
-const CLASSES: [(&str, &str); 9] = [
+const CLASSES: [(&str, &str); 15] = [
     (EDGES, "the edges of document 01"),
     (SWEPT, "one node's words through all their limits"),
     (GROWN, "grown from zeros"),
@@ -20,6 +22,22 @@ const CLASSES: [(&str, &str); 9] = [
     (DAMAGED, "one word changed, no graph"),
     (PASSING, "one word changed, still a graph"),
     (LENGTH, "another length"),
+    NUMBERED[0],
+    NUMBERED[1],
+    NUMBERED[2],
+    NUMBERED[3],
+    NUMBERED[4],
+    NUMBERED[5],
+];
+
+// The classes of calls with any numbers.
+const NUMBERED: [(&str, &str); 6] = [
+    (CHOICES, "any numbers: every choice about the limits"),
+    (ANY_GROWN, "any numbers: on grown graphs"),
+    (ANY_EMPTY, "any numbers: on the empty graph"),
+    (ANY_OTHER, "any numbers: on other graphs"),
+    (ANY_NO_GRAPH, "any numbers: on no graph"),
+    (VALUES, "evaluators and mask"),
 ];
 
 // The answers that a whole run must have met, by class.
@@ -112,6 +130,71 @@ const MET: [(&str, &[&str]); 8] = [
     (DAMAGED, &["refused 1", "is no graph"]),
     (PASSING, &["new node", "old node", "none", "is a graph"]),
     (LENGTH, &["refused 1", "is no graph"]),
+];
+
+// The same for the classes of calls with any numbers, which a program has not.
+const MET_NUMBERED: [(&str, &[&str]); 6] = [
+    (
+        CHOICES,
+        &[
+            "refused 1",
+            "refused 2",
+            "refused 3",
+            "refused 4",
+            "refused 5",
+            "wrong length",
+            "node's words",
+            "guard",
+        ],
+    ),
+    (
+        ANY_GROWN,
+        &[
+            "refused 2",
+            "refused 3",
+            "refused 4",
+            "refused 5",
+            "wrong length",
+            "node's words",
+            "value",
+            "none",
+            "guard",
+            "resolved",
+            "new node",
+            "old node",
+        ],
+    ),
+    (
+        ANY_EMPTY,
+        &[
+            "refused 2",
+            "refused 3",
+            "refused 4",
+            "refused 5",
+            "new node",
+        ],
+    ),
+    (
+        ANY_OTHER,
+        &[
+            "refused 2",
+            "refused 3",
+            "refused 4",
+            "refused 5",
+            "wrong length",
+            "node's words",
+            "guard",
+            "resolved",
+        ],
+    ),
+    (
+        ANY_NO_GRAPH,
+        &["refused 1", "is no graph", "value", "wrong length"],
+    ),
+    (
+        VALUES,
+        &["value", "none", "refused 2", "refused 4", "wrong length"],
+    ),
 ];
 
 fn print_classes(counts: &BTreeMap<&'static str, Counts>) {
@@ -239,13 +322,20 @@ pub fn print(rounds: &Rounds) {
     let retains: u64 = kinds.flat_map(|kinds| kinds.values()).sum();
     print_guards(counts, Kind::Grown, "grown graphs");
     print_guards(counts, Kind::Other, "other regions");
+    println!("With any numbers: {} of the calls", of_numbered(counts));
     println!("{calls} calls and {retains} retains compared, no difference");
 }
 
-// The kinds of calls that a class must have met.
-fn missing_kinds(class: &str, counts: &Counts) -> Vec<String> {
+// The calls with any numbers.
+fn of_numbered(counts: &BTreeMap<&'static str, Counts>) -> u64 {
+    let numbered = NUMBERED.iter().filter_map(|(class, _)| counts.get(class));
+    numbered.map(|counts| counts.calls).sum()
+}
+
+// The kinds of calls that a class must have met and has not.
+fn missing_kinds(class: &str, counts: &Counts, kinds: &[&str]) -> Vec<String> {
     let is_missing = |kind: &&&str| !counts.kinds.contains_key(**kind);
-    let kinds = KINDS.iter().filter(is_missing);
+    let kinds = kinds.iter().filter(is_missing);
     kinds.map(|kind| format!("{class}: {kind}")).collect()
 }
 
@@ -264,18 +354,30 @@ fn missing_retains(comparison: &Comparison) -> Vec<String> {
     missing
 }
 
-// What was never met, of all that a whole run must have.
-pub fn missing(comparison: &Comparison) -> Vec<String> {
-    let mut missing = vec![];
+// What a class must have met and has not.
+fn missing_of(comparison: &Comparison, class: &str, names: &[&str], kinds: &[&str]) -> Vec<String> {
     let none = Counts::default();
+    let counts = comparison.counts.get(class).unwrap_or(&none);
+    let is_missing = |name: &&&str| !counts.answers.contains_key(**name);
+    let names = names.iter().filter(is_missing);
+    let mut missing: Vec<String> = names.map(|name| format!("{class}: {name}")).collect();
+    missing.extend(missing_kinds(class, counts, kinds));
+    missing
+}
+
+// What was never met, of all that a whole run must have.
+pub fn missing(rounds: &Rounds) -> Vec<String> {
+    let comparison = &rounds.comparison;
+    let mut missing = vec![];
     for (class, names) in MET {
-        let counts = comparison.counts.get(class).unwrap_or(&none);
-        for name in names {
-            if !counts.answers.contains_key(name) {
-                missing.push(format!("{class}: {name}"));
-            }
+        missing.extend(missing_of(comparison, class, names, &KINDS[..LISTED]));
+    }
+    for (class, names) in MET_NUMBERED {
+        // Values are of the last kinds, but for the node.
+        let first = if class == VALUES { LISTED + 1 } else { 0 };
+        if rounds.source.has_numbers {
+            missing.extend(missing_of(comparison, class, names, &KINDS[first..]));
         }
-        missing.extend(missing_kinds(class, counts));
     }
     missing.extend(missing_retains(comparison));
     missing.extend(wrong_sites());

@@ -24,6 +24,15 @@ impl Retain {
         }
     }
 
+    // With slices that need not fit.
+    pub fn of_lengths(keep: Vec<u8>, mapping: usize) -> Self {
+        Retain {
+            keep,
+            mapping,
+            kind: "any lengths",
+        }
+    }
+
     pub fn is_refused(&self) -> bool {
         self.kind.starts_with("refused")
     }

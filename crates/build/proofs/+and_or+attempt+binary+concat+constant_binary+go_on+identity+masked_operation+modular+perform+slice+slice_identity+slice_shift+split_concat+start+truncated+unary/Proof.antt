@@ -61,9 +61,9 @@ use Rattle.build.proofs.+and_or+attempt+binary+concat+constant_binary+g
 use Rattle.plan_binary.proofs.binary.binary_first.Reads as binary-first-reads
 use Rattle.build.proofs.spent.Reads as spent-reads
 use Rattle.build.proofs.rest_of_builder.rest_plan.Reads as rest-plan-reads
-use Rattle.plan.proofs.single.identity_plan.Reads as identity-plan-reads
-use Rattle.plan.proofs.single.modular_plan.Reads as modular-plan-reads
-use Rattle.plan.proofs.single.unary_first.Reads as unary-first-reads
+use Rattle.plan.proofs.one_operand.identity_plan.Reads as identity-plan-reads
+use Rattle.plan.proofs.one_operand.modular_plan.Reads as modular-plan-reads
+use Rattle.plan.proofs.one_operand.unary_first.Reads as unary-first-reads
 use Rattle.plan_slice.proofs.slice.concat_first.Reads as concat-first-reads
 use Rattle.plan_slice.proofs.slice.slice_first.Reads as slice-first-reads
 use Rattle.graph.proofs.insert.insert.Reads as insert-reads

@@ -4,7 +4,7 @@ use Prim.Native.Nat.{_-_, _<_}
 use native.Mathlib.Omega.{arith}
 use Rattle.graph.specs.Layout.{countOf}
 use Rattle.graph.proofs.Grown.{graph-facts}
-use Rattle.retain.proofs.Operands.{first-below, second-below, choice-facts}
+use Rattle.retain.proofs.Operands.{first-below, second-below, keep-list-facts}
 use Rattle.retain.proofs.Moving.{kept-le, Moving, moving-begins, moving-next, moving-ends}
 use Rattle.retain.proofs.retain.Statement.{statement}
 use Rattle.retain.proofs.retain.Tie as tie
@@ -22,14 +22,14 @@ count-requires c κs =
 loop-holds : tie.Need-loop-holds Inv-loop μ-loop
 loop-holds c =
     let a = c .before .before .before .before .before .args in
-    moving-begins (a .g .now) (a .keep .now) (a .mapping .now) (graph-facts (a .g .now) (c .before .before .before .before .before .pre .0) .length) (choice-facts (a .g .now) (a .keep .now) (a .mapping .now) (c .before .before .before .before .before .pre .1) .ids)
+    moving-begins (a .g .now) (a .keep .now) (a .mapping .now) (graph-facts (a .g .now) (c .before .before .before .before .before .pre .0) .length) (keep-list-facts (a .g .now) (a .keep .now) (a .mapping .now) (c .before .before .before .before .before .pre .1) .ids)
 
 place-requires : tie.Need-place-requires Inv-loop μ-loop
 place-requires c κs =
     let a = c .before .before .before .before .before .before .before .before .before .args in
     let l = c .before .before .before .loop in
     let f = graph-facts (a .g .now) (c .before .before .before .before .before .before .before .before .before .pre .0) in
-    let k = choice-facts (a .g .now) (a .keep .now) (a .mapping .now) (c .before .before .before .before .before .before .before .before .before .pre .1) in
+    let k = keep-list-facts (a .g .now) (a .keep .now) (a .mapping .now) (c .before .before .before .before .before .before .before .before .before .pre .1) in
     let more : l .node < countOf (a .g .now) = omega arith in
     (l .inv .size, omega (arith, more, l .inv .kept, kept-le (a .keep .now) (l .node), f .count), omega (arith, k .keeps), omega (arith, l .inv .ids))
 
@@ -38,7 +38,7 @@ add-node c =
     let a = c .before .before .before .before .before .before .before .before .before .before .before .before .before .before .args in
     let l = c .before .before .before .before .before .before .before .before .loop in
     let f = graph-facts (a .g .now) (c .before .before .before .before .before .before .before .before .before .before .before .before .before .before .pre .0) in
-    let k = choice-facts (a .g .now) (a .keep .now) (a .mapping .now) (c .before .before .before .before .before .before .before .before .before .before .before .before .before .before .pre .1) in
+    let k = keep-list-facts (a .g .now) (a .keep .now) (a .mapping .now) (c .before .before .before .before .before .before .before .before .before .before .before .before .before .before .pre .1) in
     omega (arith, f .count)
 
 loop-less : tie.Need-loop-less Inv-loop μ-loop
@@ -50,7 +50,7 @@ loop-again c =
     let a = c .before .before .before .before .before .before .before .before .before .before .before .before .before .before .args in
     let l = c .before .before .before .before .before .before .before .before .loop in
     let f = graph-facts (a .g .now) (c .before .before .before .before .before .before .before .before .before .before .before .before .before .before .pre .0) in
-    let k = choice-facts (a .g .now) (a .keep .now) (a .mapping .now) (c .before .before .before .before .before .before .before .before .before .before .before .before .before .before .pre .1) in
+    let k = keep-list-facts (a .g .now) (a .keep .now) (a .mapping .now) (c .before .before .before .before .before .before .before .before .before .before .before .before .before .before .pre .1) in
     let e = c .before .before .before .before .place .ensures in
     let more : l .node < countOf (a .g .now) = omega arith in
     moving-next (a .g .now) (a .keep .now) (l .g) (l .mapping) (l .next) (l .node) (l .inv) more (f .count) (first-below f (l .node) more)
@@ -61,7 +61,7 @@ clear-from-requires c κs =
     let a = c .before .before .before .before .before .before .before .before .args in
     let l = c .before .before .loop in
     let f = graph-facts (a .g .now) (c .before .before .before .before .before .before .before .before .pre .0) in
-    let k = choice-facts (a .g .now) (a .keep .now) (a .mapping .now) (c .before .before .before .before .before .before .before .before .pre .1) in
+    let k = keep-list-facts (a .g .now) (a .keep .now) (a .mapping .now) (c .before .before .before .before .before .before .before .before .pre .1) in
     (l .inv .size, omega (arith, l .inv .kept, l .inv .upto, kept-le (a .keep .now) (l .node), f .count))
 
 same-length : tie.Need-same-length Inv-loop μ-loop
@@ -71,7 +71,7 @@ same-length c =
 same-length-2 : tie.Need-same-length-2 Inv-loop μ-loop
 same-length-2 c =
     let a = c .before .before .before .before .before .before .before .before .before .before .before .args in
-    c .before .before .before .before .before .loop .inv .ids ∙ sym (choice-facts (a .g .now) (a .keep .now) (a .mapping .now) (c .before .before .before .before .before .before .before .before .before .before .before .pre .1) .ids)
+    c .before .before .before .before .before .loop .inv .ids ∙ sym (keep-list-facts (a .g .now) (a .keep .now) (a .mapping .now) (c .before .before .before .before .before .before .before .before .before .before .before .pre .1) .ids)
 
 returns : tie.Need-returns Inv-loop μ-loop
 returns c =

@@ -5,7 +5,7 @@ use borrow.Author.Needs.{needs}
 use lib.ListN.{length}
 use Rattle.assume.specs.Limits.{limitsOf}
 use Rattle.assume.specs.Refine.{narrowed, outcomeOf, refineUpTo, refined}
-use Rattle.assume.proofs.Laws.{steps-none, steps-end, steps-full, steps-last, steps-on}
+use Rattle.assume.proofs.Laws.{steps-none, steps-on}
 use Rattle.assume.proofs.refine.refine.Statement.{statement}
 use Rattle.assume.proofs.refine.refine.Tie as tie
 
@@ -33,7 +33,7 @@ same-length : tie.Need-same-length Inv-loop μ-loop
 same-length c = c .before .before .before .before .refine-step .kept .0 ∙ c .before .before .before .before .before .before .before .before .before .loop .inv .1
 
 returns : tie.Need-returns Inv-loop μ-loop
-returns c = let e = rw (c .enum-told .given .1) at (c .before .before .before .before .refine-step .ensures) in sym (c .before .before .before .before .before .before .before .before .before .loop .inv .0 ∙ steps-end (c .before .before .before .before .before .before .before .before .before .loop .left - 1) (c .before .before .before .before .before .before .before .before .before .loop .left) _ _ _ _ _ _ (omega arith) (c .before .before .before .before .before .before .resolve .ensures) _ e)
+returns c = let e = rw (c .enum-told .given .1) at (c .before .before .before .before .refine-step .ensures) in sym (c .before .before .before .before .before .before .before .before .before .loop .inv .0 ∙ steps-on (c .before .before .before .before .before .before .before .before .before .loop .left - 1) (c .before .before .before .before .before .before .before .before .before .loop .left) _ _ _ _ _ _ (omega arith) (c .before .before .before .before .before .before .resolve .ensures) _ _ e)
 
 enum-told-2 : tie.Need-enum-told-2 Inv-loop μ-loop
 enum-told-2 c = search needs
@@ -42,7 +42,7 @@ same-length-2 : tie.Need-same-length-2 Inv-loop μ-loop
 same-length-2 c = c .before .before .before .before .refine-step .kept .0 ∙ c .before .before .before .before .before .before .before .before .before .loop .inv .1
 
 returns-2 : tie.Need-returns-2 Inv-loop μ-loop
-returns-2 c = let e = rw (c .enum-told2 .given .1) at (c .before .before .before .before .refine-step .ensures) in sym (c .before .before .before .before .before .before .before .before .before .loop .inv .0 ∙ steps-full (c .before .before .before .before .before .before .before .before .before .loop .left - 1) (c .before .before .before .before .before .before .before .before .before .loop .left) _ _ _ _ _ _ (omega arith) (c .before .before .before .before .before .before .resolve .ensures) _ e)
+returns-2 c = let e = rw (c .enum-told2 .given .1) at (c .before .before .before .before .refine-step .ensures) in sym (c .before .before .before .before .before .before .before .before .before .loop .inv .0 ∙ steps-on (c .before .before .before .before .before .before .before .before .before .loop .left - 1) (c .before .before .before .before .before .before .before .before .before .loop .left) _ _ _ _ _ _ (omega arith) (c .before .before .before .before .before .before .resolve .ensures) _ _ e)
 
 enum-told-3 : tie.Need-enum-told-3 Inv-loop μ-loop
 enum-told-3 c = search needs
@@ -57,7 +57,7 @@ same-length-3 : tie.Need-same-length-3 Inv-loop μ-loop
 same-length-3 c = c .before .before .before .before .before .before .refine-step .kept .0 ∙ c .before .before .before .before .before .before .before .before .before .before .before .loop .inv .1
 
 returns-3 : tie.Need-returns-3 Inv-loop μ-loop
-returns-3 c = let e = rw (c .before .before .enum-told3 .given .1, c .enum-told4 .given .1) at (c .before .before .before .before .before .before .refine-step .ensures) in sym (c .before .before .before .before .before .before .before .before .before .before .before .loop .inv .0 ∙ steps-last (c .before .before .before .before .before .before .before .before .before .before .before .loop .left - 1) (c .before .before .before .before .before .before .before .before .before .before .before .loop .left) _ _ _ _ _ _ (omega arith) (c .before .before .before .before .before .before .before .before .resolve .ensures) e)
+returns-3 c = let e = rw (c .before .before .enum-told3 .given .1, c .enum-told4 .given .1) at (c .before .before .before .before .before .before .refine-step .ensures) in sym (c .before .before .before .before .before .before .before .before .before .before .before .loop .inv .0 ∙ steps-on (c .before .before .before .before .before .before .before .before .before .before .before .loop .left - 1) (c .before .before .before .before .before .before .before .before .before .before .before .loop .left) _ _ _ _ _ _ (omega arith) (c .before .before .before .before .before .before .before .before .resolve .ensures) _ _ e)
 
 limited-to-requires : tie.Need-limited-to-requires Inv-loop μ-loop
 limited-to-requires c κs = search needs
@@ -69,7 +69,7 @@ loop-less : tie.Need-loop-less Inv-loop μ-loop
 loop-less c = omega arith
 
 loop-again : tie.Need-loop-again Inv-loop μ-loop
-loop-again c = let e = rw (c .before .before .before .before .before .enum-told3 .given .1, c .before .before .before .next .given .1) at (c .before .before .before .before .before .before .before .before .before .refine-step .ensures) in (c .before .before .before .before .before .before .before .before .before .before .before .before .before .before .loop .inv .0 ∙ steps-on (c .before .before .before .before .before .before .before .before .before .before .before .before .before .before .loop .left - 1) (c .before .before .before .before .before .before .before .before .before .before .before .before .before .before .loop .left) _ _ _ _ _ _ (omega arith) (c .before .before .before .before .before .before .before .before .before .before .before .resolve .ensures) _ e ∙ ap (refineUpTo (c .before .before .before .before .before .before .before .before .before .before .before .before .before .before .loop .left - 1) narrowed _ _) (sym (c .limited-to .ensures)), c .before .before .before .before .before .before .before .before .before .refine-step .kept .0 ∙ c .before .before .before .before .before .before .before .before .before .before .before .before .before .before .loop .inv .1)
+loop-again c = let e = rw (c .before .before .before .before .before .enum-told3 .given .1, c .before .before .before .next .given .1) at (c .before .before .before .before .before .before .before .before .before .refine-step .ensures) in (c .before .before .before .before .before .before .before .before .before .before .before .before .before .before .loop .inv .0 ∙ steps-on (c .before .before .before .before .before .before .before .before .before .before .before .before .before .before .loop .left - 1) (c .before .before .before .before .before .before .before .before .before .before .before .before .before .before .loop .left) _ _ _ _ _ _ (omega arith) (c .before .before .before .before .before .before .before .before .before .before .before .resolve .ensures) _ _ e ∙ ap (refineUpTo (c .before .before .before .before .before .before .before .before .before .before .before .before .before .before .loop .left - 1) narrowed _ _) (sym (c .limited-to .ensures)), c .before .before .before .before .before .before .before .before .before .refine-step .kept .0 ∙ c .before .before .before .before .before .before .before .before .before .before .before .before .before .before .loop .inv .1)
 
 same-length-4 : tie.Need-same-length-4 Inv-loop μ-loop
 same-length-4 c = c .before .loop .inv .1

@@ -4,13 +4,13 @@ use native.Mathlib.Omega.{arith}
 use borrow.Author.Needs.{needs}
 use borrow.Fn.Kinds.{In}
 use borrow.Fn.PlainCycle.{Measures, is, falls, and}
-use Rattle.bitfield.specs.Bitfield.{bitAt, stepOf, turned}
+use Rattle.bitfield.specs.Bitfield.{bitAt, stepOf, negatedBit}
 use Rattle.bitfield.proofs.Laws.{bit-reached}
 use Rattle.bitfield.proofs.bits.bit.Reads as bit
 use Rattle.bitfield.proofs.bits.bit.Kinds as bit-kinds
 use Rattle.bitfield.proofs.bits.+bit.Lts-bit as bit-lts
 use Rattle.bitfield.proofs.bits.bit_step.Reads as bit-step-reads
-use Rattle.bitfield.proofs.bits.turned.Reads as turned-reads
+use Rattle.bitfield.proofs.bits.negated_bit.Reads as negated-bit-reads
 use Rattle.bitfield.proofs.bits.+bit.{statement}
 use Rattle.bitfield.proofs.bits.+bit.Tie.{close}
 
@@ -24,7 +24,7 @@ abbrev bit-below : ℕ → In 1 bit-kinds.ps
 bit-below t = and 1 bit-kinds.ps (falls 1 bit-kinds.ps _<_ μ-bit t) bit.Pre
 
 abbrev bit-env : ℕ → bit-lts.Claims
-bit-env t = (bit-step-reads.Asked, bit-step-reads.Learnt, bit-below t, bit.Post, turned-reads.Asked, turned-reads.Learnt)
+bit-env t = (bit-step-reads.Asked, bit-step-reads.Learnt, bit-below t, bit.Post, negated-bit-reads.Asked, negated-bit-reads.Learnt)
 
 bit-returns : (t : ℕ) → bit-lts.Need-returns (bit-env t) (bit-at t) bit.Post
 unfolding bitAt
@@ -54,8 +54,8 @@ bit-sub-bit-2 t c = omega arith
 bit-bit-requires-2 : (t : ℕ) → bit-lts.Need-bit-requires-2 (bit-env t) (bit-at t) bit.Post
 bit-bit-requires-2 t c κs = (omega (arith, c .before .before .before .before .before .before .pre .0), c .before .before .before .before .before .before .pre .1)
 
-bit-turned-requires : (t : ℕ) → bit-lts.Need-turned-requires (bit-env t) (bit-at t) bit.Post
-bit-turned-requires t c κs = search needs
+bit-negated-bit-requires : (t : ℕ) → bit-lts.Need-negated-bit-requires (bit-env t) (bit-at t) bit.Post
+bit-negated-bit-requires t c κs = search needs
 
 bit-returns-2 : (t : ℕ) → bit-lts.Need-returns-2 (bit-env t) (bit-at t) bit.Post
 bit-returns-2 t c =
@@ -73,8 +73,8 @@ bit-returns-3 t c =
 bit-returns-4 : (t : ℕ) → bit-lts.Need-returns-4 (bit-env t) (bit-at t) bit.Post
 bit-returns-4 t c =
     let a = c .before .before .before .before .before .before .before .before .args in
-    c .turned .ensures
-    ∙ ap turned (c .before .bit2 .ensures)
+    c .negated-bit .ensures
+    ∙ ap negatedBit (c .before .bit2 .ensures)
     ∙ bit-reached (a .g .now) (a .left) (a .left - 1) (a .id .0) (a .index) _ (omega arith)
     (sym (ap stepOf (c .before .before .before .step3 .given .1)) ∙ c .before .before .before .before .before .bit-step .ensures)
 
@@ -91,7 +91,7 @@ pub +bit-spec : {M : Type 1} → statement M
     (bit-enum-known-step-3 t)
     (bit-sub-bit-2 t)
     (bit-bit-requires-2 t)
-    (bit-turned-requires t)
+    (bit-negated-bit-requires t)
     (bit-returns-2 t)
     (bit-returns-3 t)
     (bit-returns-4 t)

@@ -6,11 +6,11 @@ use Rattle.bitfield.proofs.equality.binary_update.Tie as tie
 same-binary-requires : tie.Need-same-binary-requires
 same-binary-requires c κs = search needs
 
-whole-requires : tie.Need-whole-requires
-whole-requires c κs = search needs
+sets-nothing-requires : tie.Need-sets-nothing-requires
+sets-nothing-requires c κs = search needs
 
 returns : tie.Need-returns
-returns c = rw (← c .before .before .same-binary .ensures, not-true (c .before .before .same-binary .result) (c .before .if1 .taken)) (c .whole .ensures)
+returns c = rw (← c .before .before .same-binary .ensures, not-true (c .before .before .same-binary .result) (c .before .if1 .taken)) (c .sets-nothing .ensures)
 
 literal-requires : tie.Need-literal-requires
 literal-requires c κs = search needs
@@ -32,7 +32,7 @@ binary-update-spec =
     tie.close
     (tie.spec
     same-binary-requires
-    whole-requires
+    sets-nothing-requires
     returns
     literal-requires
     enum-known-value

@@ -12,8 +12,8 @@ enum-told c = search needs
 enum-known-ty : tie.Need-enum-known-ty
 enum-known-ty c = search needs
 
-look-bits-requires : tie.Need-look-bits-requires
-look-bits-requires c κs = search needs
+look-at-bits-requires : tie.Need-look-at-bits-requires
+look-at-bits-requires c κs = search needs
 
 enum-told-2 : tie.Need-enum-told-2
 enum-told-2 c = search needs
@@ -24,7 +24,7 @@ returns c = simp (← c .before .before .type-at .ensures, c .enum-told .given .
 
 returns-2 : tie.Need-returns-2
 unfolding lookAt
-returns-2 c = simp (← c .before .before .before .before .type-at .ensures, c .before .before .ty .given .1, ← c .look-bits .ensures)
+returns-2 c = simp (← c .before .before .before .before .type-at .ensures, c .before .before .ty .given .1, ← c .look-at-bits .ensures)
 
 returns-3 : tie.Need-returns-3
 unfolding lookAt
@@ -37,7 +37,7 @@ look-at-spec =
     type-at-requires
     enum-told
     enum-known-ty
-    look-bits-requires
+    look-at-bits-requires
     enum-told-2
     returns
     returns-2

@@ -1,5 +1,5 @@
 -- `evaluate_unary` meets its contract: question 2, then the value.
-use Rattle.evaluate.specs.Answer.{evaluateUnaryCall}
+use Rattle.evaluate.specs.Answer.{evaluateUnary}
 use borrow.Author.Tests.{lt-leb, le-leb}
 use borrow.Author.Needs.{needs}
 use Rattle.evaluate.proofs.one_operand.evaluate_unary.Statement.{statement}
@@ -9,7 +9,7 @@ width-requires : tie.Need-width-requires
 width-requires c κs = search needs
 
 returns : tie.Need-returns
-unfolding evaluateUnaryCall
+unfolding evaluateUnary
 returns c = simp (← c .before .width .ensures, lt-leb _ _ (c .if1 .taken))
 
 unary-value-requires : tie.Need-unary-value-requires
@@ -22,11 +22,11 @@ enum-told : tie.Need-enum-told
 enum-told c = search needs
 
 returns-2 : tie.Need-returns-2
-unfolding evaluateUnaryCall
+unfolding evaluateUnary
 returns-2 c = simp (← c .before .before .before .before .before .width .ensures, le-leb _ _ (c .before .before .before .before .if1 .left), ← c .before .before .before .unary-value .ensures, c .before .answer .given .1)
 
 returns-3 : tie.Need-returns-3
-unfolding evaluateUnaryCall
+unfolding evaluateUnary
 returns-3 c = simp (← c .before .before .before .before .width .ensures, le-leb _ _ (c .before .before .before .if1 .left), ← c .before .before .unary-value .ensures, c .enum-told .given .1)
 
 pub evaluate-unary-spec : {M : Type 1} → statement M

@@ -2,7 +2,8 @@
 use Rattle.word.specs.Value.{val}
 use mathlib.Core.Path.{ap, _∙_}
 use mathlib.Core.Option.{some}
-use Rattle.evaluate.specs.Evaluate.{evaluateUnary, fromBool}
+use Rattle.word.specs.Option.{fromBool}
+use Rattle.evaluate.specs.Evaluate.{unaryValue}
 use borrow.Author.Needs.{needs}
 use Rattle.evaluate.proofs.one_operand.unary_value.Statement.{statement}
 use Rattle.evaluate.proofs.one_operand.unary_value.Tie as tie
@@ -59,32 +60,32 @@ trailing-zeros-requires : tie.Need-trailing-zeros-requires
 trailing-zeros-requires c κs = search needs
 
 returns : tie.Need-returns
-unfolding evaluateUnary val
+unfolding unaryValue val
 returns c =
     rw (c .before .before .enum-told .given .1) (ap some (c .from-bool .ensures ∙ ap fromBool (c .before .eq .ensures)))
 
 returns-2 : tie.Need-returns-2
-unfolding evaluateUnary
+unfolding unaryValue
 returns-2 c = simp (c .before .enum-told2 .given .1, ← c .not .ensures)
 
 returns-3 : tie.Need-returns-3
-unfolding evaluateUnary
+unfolding unaryValue
 returns-3 c = simp (c .before .before .before .enum-told3 .given .1, ← c .before .before .as-signed .ensures, ← c .before .checked-neg .ensures, ← c .pattern-of .ensures)
 
 returns-4 : tie.Need-returns-4
-unfolding evaluateUnary
+unfolding unaryValue
 returns-4 c = simp (c .before .before .operation .given .1, ← c .low-bits .ensures)
 
 returns-5 : tie.Need-returns-5
-unfolding evaluateUnary
+unfolding unaryValue
 returns-5 c = simp (c .before .before .operation2 .given .1, ← c .sign-extend .ensures)
 
 returns-6 : tie.Need-returns-6
-unfolding evaluateUnary
+unfolding unaryValue
 returns-6 c = simp (c .before .before .operation3 .given .1, ← c .leading-zeros .ensures)
 
 returns-7 : tie.Need-returns-7
-unfolding evaluateUnary
+unfolding unaryValue
 returns-7 c = simp (c .before .before .operation4 .given .1, ← c .trailing-zeros .ensures)
 
 pub unary-value-spec : {M : Type 1} → statement M

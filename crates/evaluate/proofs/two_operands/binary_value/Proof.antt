@@ -1,11 +1,11 @@
 -- `binary_value` meets its contract: the operator's answer, reduced to the type.
-use Rattle.evaluate.specs.Evaluate.{evaluateBinary}
+use Rattle.evaluate.specs.Evaluate.{binaryValue}
 use borrow.Author.Needs.{needs}
 use Rattle.evaluate.proofs.two_operands.binary_value.Statement.{statement}
 use Rattle.evaluate.proofs.two_operands.binary_value.Tie as tie
 
-raw-value-requires : tie.Need-raw-value-requires
-raw-value-requires c κs = search needs
+unreduced-requires : tie.Need-unreduced-requires
+unreduced-requires c κs = search needs
 
 enum-known-answer : tie.Need-enum-known-answer
 enum-known-answer c = search needs
@@ -17,14 +17,14 @@ enum-told : tie.Need-enum-told
 enum-told c = search needs
 
 returns : tie.Need-returns
-unfolding evaluateBinary
-returns c = simp (← c .before .before .before .before .raw-value .ensures, c .before .before .answer .given .1, ← c .reduced .ensures)
+unfolding binaryValue
+returns c = simp (← c .before .before .before .before .unreduced .ensures, c .before .before .answer .given .1, ← c .reduced .ensures)
 
 returns-2 : tie.Need-returns-2
-unfolding evaluateBinary
-returns-2 c = simp (← c .before .before .raw-value .ensures, c .enum-told .given .1)
+unfolding binaryValue
+returns-2 c = simp (← c .before .before .unreduced .ensures, c .enum-told .given .1)
 
 pub binary-value-spec : {M : Type 1} → statement M
 binary-value-spec =
     tie.close
-    (tie.spec raw-value-requires enum-known-answer reduced-requires enum-told returns returns-2)
+    (tie.spec unreduced-requires enum-known-answer reduced-requires enum-told returns returns-2)

@@ -1,22 +1,11 @@
 -- `mul` meets its contract, by the type.
 use borrow.Author.Needs.{needs}
+use Rattle.evaluate.proofs.Answers.{by-type}
 use Rattle.evaluate.proofs.two_operands.mul.Statement.{statement}
 use Rattle.evaluate.proofs.two_operands.mul.Tie as tie
 
-enum-told : tie.Need-enum-told
-enum-told c = search needs
-
-wrapping-mul-requires : tie.Need-wrapping-mul-requires
-wrapping-mul-requires c κs = search needs
-
-enum-told-2 : tie.Need-enum-told-2
-enum-told-2 c = search needs
-
-wrapping-mul-requires-2 : tie.Need-wrapping-mul-requires-2
-wrapping-mul-requires-2 c κs = search needs
-
-enum-told-3 : tie.Need-enum-told-3
-enum-told-3 c = search needs
+is-integer-requires : tie.Need-is-integer-requires
+is-integer-requires c κs = search needs
 
 as-signed-requires : tie.Need-as-signed-requires
 as-signed-requires c κs = search needs
@@ -30,28 +19,27 @@ checked-mul-requires c κs = search needs
 pattern-of-requires : tie.Need-pattern-of-requires
 pattern-of-requires c κs = search needs
 
+wrapping-mul-requires : tie.Need-wrapping-mul-requires
+wrapping-mul-requires c κs = search needs
+
 returns : tie.Need-returns
-returns c = simp (c .before .enum-told .given .1, ← c .wrapping-mul .ensures)
+returns c =
+    let s = c .before .before .before .as-signed .ensures in
+    let f = c .before .before .before .before in
+    simp (by-type, ← f .before .is-integer .ensures, f .if1 .taken, ← s, ← c .before .before .as-signed2 .ensures, ← c .before .checked-mul .ensures, ← c .pattern-of .ensures)
 
 returns-2 : tie.Need-returns-2
-returns-2 c = simp (c .before .enum-told2 .given .1, ← c .wrapping-mul2 .ensures)
-
-returns-3 : tie.Need-returns-3
-returns-3 c = simp (c .before .before .before .before .enum-told3 .given .1, ← c .before .before .before .as-signed .ensures, ← c .before .before .as-signed2 .ensures, ← c .before .checked-mul .ensures, ← c .pattern-of .ensures)
+returns-2 c = simp (by-type, ← c .before .before .is-integer .ensures, c .before .if1 .left, ← c .wrapping-mul .ensures)
 
 pub mul-spec : {M : Type 1} → statement M
 mul-spec =
     tie.close
     (tie.spec
-    enum-told
-    wrapping-mul-requires
-    enum-told-2
-    wrapping-mul-requires-2
-    enum-told-3
+    is-integer-requires
     as-signed-requires
     as-signed-requires-2
     checked-mul-requires
     pattern-of-requires
+    wrapping-mul-requires
     returns
-    returns-2
-    returns-3)
+    returns-2)

@@ -19,12 +19,12 @@ same-binary-requires-2 c κs = search needs
 equal-ranges-requires-2 : tie.Need-equal-ranges-requires-2
 equal-ranges-requires-2 c κs = search needs
 
-turned-requires : tie.Need-turned-requires
-turned-requires c κs = search needs
+negated-truth-requires : tie.Need-negated-truth-requires
+negated-truth-requires c κs = search needs
 
 returns-2 : tie.Need-returns-2
 unfolding comparison
-returns-2 c = rw (← c .before .before .before .before .before .same-binary .ensures, c .before .before .before .before .if1 .left, ← c .before .before .before .same-binary2 .ensures, c .before .before .if2 .taken, ← c .before .equal-ranges2 .ensures, ← c .turned .ensures)
+returns-2 c = rw (← c .before .before .before .before .before .same-binary .ensures, c .before .before .before .before .if1 .left, ← c .before .before .before .same-binary2 .ensures, c .before .before .if2 .taken, ← c .before .equal-ranges2 .ensures, ← c .negated-truth .ensures)
 
 same-binary-requires-3 : tie.Need-same-binary-requires-3
 same-binary-requires-3 c κs = search needs
@@ -83,4 +83,4 @@ unfolding comparison
 returns-7 c = rw (← c .before .before .before .before .before .before .before .before .before .before .before .same-binary .ensures, c .before .before .before .before .before .before .before .before .before .before .if1 .left, ← c .before .before .before .before .before .before .before .before .before .same-binary2 .ensures, c .before .before .before .before .before .before .before .before .if2 .left, ← c .before .before .before .before .before .before .before .same-binary3 .ensures, c .before .before .before .before .before .before .if3 .left, ← c .before .before .before .before .before .same-binary4 .ensures, c .before .before .before .before .if4 .left, ← c .before .before .before .same-binary5 .ensures, c .before .before .if5 .left, ← c .before .same-binary6 .ensures, c .if6 .left)
 
 pub comparison-spec : {M : Type 1} → statement M
-comparison-spec = tie.close (tie.spec same-binary-requires equal-ranges-requires returns same-binary-requires-2 equal-ranges-requires-2 turned-requires returns-2 same-binary-requires-3 less-ranges-requires returns-3 same-binary-requires-4 unsigned-too-requires less-ranges-requires-2 if-unsigned-requires returns-4 same-binary-requires-5 less-equal-ranges-requires returns-5 same-binary-requires-6 unsigned-too-requires-2 less-equal-ranges-requires-2 if-unsigned-requires-2 returns-6 returns-7)
+comparison-spec = tie.close (tie.spec same-binary-requires equal-ranges-requires returns same-binary-requires-2 equal-ranges-requires-2 negated-truth-requires returns-2 same-binary-requires-3 less-ranges-requires returns-3 same-binary-requires-4 unsigned-too-requires less-ranges-requires-2 if-unsigned-requires returns-4 same-binary-requires-5 less-equal-ranges-requires returns-5 same-binary-requires-6 unsigned-too-requires-2 less-equal-ranges-requires-2 if-unsigned-requires-2 returns-6 returns-7)

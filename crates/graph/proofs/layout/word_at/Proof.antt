@@ -2,23 +2,23 @@
 use mathlib.Core.Path.{sym}
 use Prim.Native.Nat.{_+_}
 use native.Mathlib.Omega.{arith}
+use borrow.Author.Needs.{needs}
 use lib.ListN.{List·getD-eq-default}
 use Rattle.graph.specs.Layout.{nodeStart}
-use borrow.Author.Needs.{needs}
 use Rattle.graph.proofs.layout.word_at.Statement.{statement}
 use Rattle.graph.proofs.layout.word_at.Tie as tie
 
-mul-at : tie.Need-mul-at
-mul-at c = search needs
-
-add-at : tie.Need-add-at
-add-at c = search needs
-
-add-at-2 : tie.Need-add-at-2
-add-at-2 c = search needs
-
 mul-result : tie.Need-mul-result
 mul-result c = search needs
+
+add-result : tie.Need-add-result
+add-result c = search needs
+
+add-result-2 : tie.Need-add-result-2
+add-result-2 c = search needs
+
+mul-result-2 : tie.Need-mul-result-2
+mul-result-2 c = search needs
 
 shared-slice-read-result : tie.Need-shared-slice-read-result
 shared-slice-read-result c = search needs
@@ -34,4 +34,4 @@ returns-2 c =
 pub word-at-spec : {M : Type 1} → statement M
 word-at-spec =
     tie.close
-    (tie.spec mul-at add-at add-at-2 mul-result shared-slice-read-result returns returns-2)
+    (tie.spec mul-result add-result add-result-2 mul-result-2 shared-slice-read-result returns returns-2)

@@ -2,7 +2,7 @@
 use mathlib.Core.Path.{_≡_, sym, _∙_}
 use mathlib.Core.Option.{some}
 use Rattle.word.specs.Value.{val}
-use Rattle.graph.specs.Layout.{wordAt}
+use Rattle.graph.specs.Layout.{OPERATION, wordAt}
 use Rattle.graph.specs.Node.{pair}
 use Rattle.graph.specs.Insert.{literal}
 use Rattle.graph.proofs.Codes.{not-constant}
@@ -23,7 +23,7 @@ returns : tie.Need-returns
 unfolding literal val
 returns c =
     let g = c .before .before .before .before .before .args in
-    let e : wordAt (g .g .now) (g .id .0) 7 ≡ 0 = sym (c .before .before .before .word-at .ensures) ∙ c .before .before .if1 .taken in
+    let e : wordAt (g .g .now) (g .id .0) OPERATION ≡ 0 = sym (c .before .before .before .word-at .ensures) ∙ c .before .before .if1 .taken in
     rw e (λ i. some (pair (c .before .word-at2 .ensures i) (c .word-at3 .ensures i)))
 
 returns-2 : tie.Need-returns-2

@@ -4,8 +4,10 @@ use borrow.Author.Tests.{lt-ltb, le-ltb}
 use Rattle.word.specs.Value.{val}
 use Rattle.evaluate.specs.declared.Unary.{Unary}
 use Rattle.evaluate.specs.declared.Binary.{Binary}
-use Rattle.graph.specs.Node.{slice, concat, unary, binary, unaryOf}
-use Rattle.graph.proofs.Codes.{operator-code}
+use Rattle.graph.specs.Node.{slice, concat, unary, binary}
+use Rattle.evaluate.specs.Operator.{BINARY, unaryOf}
+use Rattle.evaluate.proofs.Codes.{past-match}
+use Rattle.graph.proofs.Codes.{operator}
 use borrow.Author.Needs.{needs}
 use Rattle.graph.proofs.read.operation_of.Statement.{statement}
 use Rattle.graph.proofs.read.operation_of.Tie as tie
@@ -52,13 +54,13 @@ returns-6 c =
 returns-7 : tie.Need-returns-7
 returns-7 c =
     let g = c .before .before .before .before .args in
-    rw (operator-code (g .code) (g .x) (g .y) (g .z) (c .before .before .before .match .rest), lt-ltb (g .code) 20 (c .before .before .if1 .taken))
+    rw (operator (g .code) (g .x) (g .y) (g .z) (past-match (g .code) 6 (c .before .before .before .match .rest)), lt-ltb (g .code) BINARY (c .before .before .if1 .taken))
     (ap (λ (u : Unary). unary u (g .x)) (c .unary-of .ensures ∙ ap (unaryOf (g .code)) (c .before .narrow4 .ensures)))
 
 returns-8 : tie.Need-returns-8
 returns-8 c =
     let g = c .before .before .before .args in
-    rw (operator-code (g .code) (g .x) (g .y) (g .z) (c .before .before .match .rest), le-ltb (g .code) 20 (c .before .if1 .left))
+    rw (operator (g .code) (g .x) (g .y) (g .z) (past-match (g .code) 6 (c .before .before .match .rest)), le-ltb (g .code) BINARY (c .before .if1 .left))
     (ap (λ (b : Binary). binary b (g .x) (g .y)) (c .binary-of .ensures))
 
 pub operation-of-spec : {M : Type 1} → statement M

@@ -1,9 +1,10 @@
 -- `well_formed::is_node` meets its contract: the type, the range, the alias and the operation, each from its words.
 use mathlib.Core.Path.{_≡_}
+use Prim.Native.Nat.{_+_}
 use borrow.Author.Needs.{needs}
 use borrow.Author.Tests.{not-true, not-false}
 use Rattle.word.specs.Value.{val}
-use Rattle.graph.specs.Layout.{wordAt}
+use Rattle.graph.specs.Layout.{TYPE, WIDTH, RANGE, MIN, MAX, wordAt}
 use Rattle.graph.specs.Node.{pair, aliasAt}
 use Rattle.graph.specs.WellFormed.{isType, isRange, isAlias}
 use Rattle.graph.proofs.well_formed.is_node.Statement.{statement}
@@ -11,13 +12,13 @@ use Rattle.graph.proofs.well_formed.is_node.Tie as tie
 
 typed : (c : tie.After-is-type)
     → (let a = c .before .before .before .before .args in
-    c .is-type .result ≡ isType (wordAt (a .g .now) (a .n) 0) (wordAt (a .g .now) (a .n) 1))
+    c .is-type .result ≡ isType (wordAt (a .g .now) (a .n) TYPE) (wordAt (a .g .now) (a .n) WIDTH))
 typed c = rw (← c .before .before .word-at .ensures, ← c .before .word-at2 .ensures) (c .is-type .ensures)
 
 ranged : (c : tie.After-is-range)
     → (let a = c .before .before .before .before .before .before .before .before .before .before .before .args in
     let word = wordAt (a .g .now) (a .n) in
-    c .is-range .result ≡ isRange (word 0) (word 1) (word 2) (pair (word 3) (word 4)) (pair (word 5) (word 6)))
+    c .is-range .result ≡ isRange (word TYPE) (word WIDTH) (word RANGE) (pair (word MIN) (word (MIN + 1))) (pair (word MAX) (word (MAX + 1))))
 unfolding val
 ranged c =
     let d = c .before .before .before .before .before in

@@ -1,6 +1,7 @@
 -- `well_formed::is_operation` meets its contract, by the code.
-use borrow.Author.Tests.{ne-eqb, lt-ltb, le-ltb}
+use native.Mathlib.Omega.{arith}
 use borrow.Author.Needs.{needs}
+use Rattle.evaluate.proofs.Codes.{past-match, below-unary, below-binary}
 use Rattle.graph.proofs.Tests.{operators}
 use Rattle.graph.proofs.well_formed.is_operation.Statement.{statement}
 use Rattle.graph.proofs.well_formed.is_operation.Tie as tie
@@ -20,18 +21,24 @@ are-fields-requires-4 c κs = search needs
 are-fields-requires-5 : tie.Need-are-fields-requires-5
 are-fields-requires-5 c κs = search needs
 
+is-unary-code-requires : tie.Need-is-unary-code-requires
+is-unary-code-requires c κs = search needs
+
 are-fields-requires-6 : tie.Need-are-fields-requires-6
 are-fields-requires-6 c κs = search needs
 
+returns : tie.Need-returns
+returns c =
+    let a = c .before .before .before .before .args in
+    let l = c .before .before .before .if1 .left in
+    rw (operators (a .n) (a .code) (a .x) (a .y) (a .z) (omega arith), ← c .before .before .is-unary-code .ensures, c .before .if2 .taken)
+    (c .are-fields6 .ensures)
+
+is-binary-code-requires : tie.Need-is-binary-code-requires
+is-binary-code-requires c κs = search needs
+
 are-fields-requires-7 : tie.Need-are-fields-requires-7
 are-fields-requires-7 c κs = search needs
-
-returns : tie.Need-returns
-returns c = let a = c .before .before .before .before .args in
-    rw (operators (a .n) (a .code) (a .x) (a .y) (a .z) (c .before .before .before .if1 .left), le-ltb _ 13 (c .before .before .if2 .left), le-ltb _ 17 (c .before .if3 .left), lt-ltb _ 20 (c .if4 .taken))
-
-are-fields-requires-8 : tie.Need-are-fields-requires-8
-are-fields-requires-8 c κs = search needs
 
 returns-2 : tie.Need-returns-2
 returns-2 c = rw (c .match .keys1)
@@ -53,32 +60,35 @@ returns-7 c = rw (c .before .match .keys6) (c .are-fields5 .ensures)
 
 returns-8 : tie.Need-returns-8
 returns-8 c =
-    let r = c .match .rest in
-    simp (
-      ne-eqb _ 0 (r .0 .0 .0 .0 .0 .1),
-      ne-eqb _ 1 (r .0 .0 .0 .0 .1),
-      ne-eqb _ 2 (r .0 .0 .0 .1),
-      ne-eqb _ 3 (r .0 .0 .1),
-      ne-eqb _ 4 (r .0 .1),
-      ne-eqb _ 5 (r .1),
-      lt-ltb _ 10 (c .before .if1 .taken),
-    )
+    let a = c .before .before .args in
+    let l = c .before .if1 .taken in
+    let p = past-match (a .code) 6 (c .match .rest) in
+    rw (operators (a .n) (a .code) (a .x) (a .y) (a .z) (omega arith), below-unary (a .code) (a .z) l, below-binary (a .code) (omega arith))
 
 returns-9 : tie.Need-returns-9
-returns-9 c = let a = c .before .before .before .args in
-    rw (operators (a .n) (a .code) (a .x) (a .y) (a .z) (c .before .before .if1 .left), lt-ltb _ 13 (c .before .if2 .taken)) (c .are-fields6 .ensures)
+returns-9 c =
+    let a = c .before .before .before .before .before .before .args in
+    let l = c .before .before .before .before .before .if1 .left in
+    rw (
+      operators (a .n) (a .code) (a .x) (a .y) (a .z) (omega arith),
+      ← c .before .before .before .before .is-unary-code .ensures,
+      c .before .before .before .if2 .left,
+      ← c .before .before .is-binary-code .ensures,
+      c .before .if3 .taken,
+    )
+    (c .are-fields7 .ensures)
 
 returns-10 : tie.Need-returns-10
-returns-10 c = let a = c .before .before .before .before .args in
-    rw (operators (a .n) (a .code) (a .x) (a .y) (a .z) (c .before .before .before .if1 .left), le-ltb _ 13 (c .before .before .if2 .left), lt-ltb _ 17 (c .before .if3 .taken)) (c .are-fields7 .ensures)
-
-returns-11 : tie.Need-returns-11
-returns-11 c = let a = c .before .before .before .before .before .before .args in
-    rw (operators (a .n) (a .code) (a .x) (a .y) (a .z) (c .before .before .before .before .before .if1 .left), le-ltb _ 13 (c .before .before .before .before .if2 .left), le-ltb _ 17 (c .before .before .before .if3 .left), le-ltb _ 20 (c .before .before .if4 .left), lt-ltb _ 39 (c .before .if5 .taken)) (c .are-fields8 .ensures)
-
-returns-12 : tie.Need-returns-12
-returns-12 c = let a = c .before .before .before .before .before .args in
-    rw (operators (a .n) (a .code) (a .x) (a .y) (a .z) (c .before .before .before .before .if1 .left), le-ltb _ 13 (c .before .before .before .if2 .left), le-ltb _ 17 (c .before .before .if3 .left), le-ltb _ 20 (c .before .if4 .left), le-ltb _ 39 (c .if5 .left))
+returns-10 c =
+    let a = c .before .before .before .before .before .args in
+    let l = c .before .before .before .before .if1 .left in
+    rw (
+      operators (a .n) (a .code) (a .x) (a .y) (a .z) (omega arith),
+      ← c .before .before .before .is-unary-code .ensures,
+      c .before .before .if2 .left,
+      ← c .before .is-binary-code .ensures,
+      c .if3 .left,
+    )
 
 pub is-operation-spec : {M : Type 1} → statement M
 is-operation-spec =
@@ -89,10 +99,11 @@ is-operation-spec =
     are-fields-requires-3
     are-fields-requires-4
     are-fields-requires-5
+    is-unary-code-requires
     are-fields-requires-6
-    are-fields-requires-7
     returns
-    are-fields-requires-8
+    is-binary-code-requires
+    are-fields-requires-7
     returns-2
     returns-3
     returns-4
@@ -101,6 +112,4 @@ is-operation-spec =
     returns-7
     returns-8
     returns-9
-    returns-10
-    returns-11
-    returns-12)
+    returns-10)

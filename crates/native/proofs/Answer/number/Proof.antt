@@ -14,11 +14,8 @@ enum-told-2 c = search needs
 enum-known-self-2 : tie.Need-enum-known-self-2
 enum-known-self-2 c = search needs
 
-number-requires : tie.Need-number-requires
-number-requires c κs = search needs
-
-sub-result : tie.Need-sub-result
-sub-result c = search needs
+refused-as-requires : tie.Need-refused-as-requires
+refused-as-requires c κs = search needs
 
 returns : tie.Need-returns
 returns c = search needs
@@ -30,7 +27,7 @@ returns-3 : tie.Need-returns-3
 returns-3 c = search needs
 
 returns-4 : tie.Need-returns-4
-returns-4 c = simp (c .before .before .self2 .given .1, ← c .number .ensures)
+returns-4 c = rw (c .before .before .self2 .given .1) (c .refused-as .ensures)
 
 pub number-spec : {M : Type 1} → statement M
 number-spec =
@@ -40,8 +37,7 @@ number-spec =
     enum-told
     enum-told-2
     enum-known-self-2
-    number-requires
-    sub-result
+    refused-as-requires
     returns
     returns-2
     returns-3

@@ -7,9 +7,9 @@ use native.Mathlib.Omega.{arith}
 use Prim.Native.Nat.{ℕ, _≤_, _<_}
 use Rattle.evaluate.specs.Operator.{binaryCode}
 use Rattle.evaluate.specs.declared.Binary.{Binary}
-use Rattle.graph.proofs.Appended.{binary-code}
 use Rattle.native_vectors.proofs.guards.packed.Statement.{statement}
 use Rattle.native_vectors.proofs.guards.packed.Tie as tie
+use Rattle.evaluate.proofs.Codes.{binary-code}
 
 flag-is : (b : Bool) → boolByte b ≡ cond b 1 0
 flag-is true = refl

@@ -35,8 +35,8 @@ enum-told-4 c = search needs
 returns-2 : tie.Need-returns-2
 returns-2 c = simp (← c .before .before .before .before .before .before .before .before .literal .ensures, ← c .before .before .before .before .before .before .before .offset-plan .ensures, c .before .before .before .before .before .enum-told .given .1, ← c .before .before .before .before .range-at .ensures, ← c .before .before .before .range-at2 .ensures, ← c .before .before .compared-plan .ensures, c .enum-told4 .given .1)
 
-twice-plan-requires : tie.Need-twice-plan-requires
-twice-plan-requires c κs = search needs
+with-itself-plan-requires : tie.Need-with-itself-plan-requires
+with-itself-plan-requires c κs = search needs
 
 enum-told-5 : tie.Need-enum-told-5
 enum-told-5 c = search needs
@@ -45,13 +45,13 @@ enum-told-6 : tie.Need-enum-told-6
 enum-told-6 c = search needs
 
 returns-3 : tie.Need-returns-3
-returns-3 c = simp (← c .before .before .before .before .before .before .before .before .before .before .before .literal .ensures, ← c .before .before .before .before .before .before .before .before .before .before .offset-plan .ensures, c .before .before .before .before .before .before .before .before .enum-told .given .1, ← c .before .before .before .before .before .before .before .range-at .ensures, ← c .before .before .before .before .before .before .range-at2 .ensures, ← c .before .before .before .before .before .compared-plan .ensures, c .before .before .before .enum-told3 .given .1, ← c .before .before .twice-plan .ensures, c .enum-told6 .given .1)
+returns-3 c = simp (← c .before .before .before .before .before .before .before .before .before .before .before .literal .ensures, ← c .before .before .before .before .before .before .before .before .before .before .offset-plan .ensures, c .before .before .before .before .before .before .before .before .enum-told .given .1, ← c .before .before .before .before .before .before .before .range-at .ensures, ← c .before .before .before .before .before .before .range-at2 .ensures, ← c .before .before .before .before .before .compared-plan .ensures, c .before .before .before .enum-told3 .given .1, ← c .before .before .with-itself-plan .ensures, c .enum-told6 .given .1)
 
 literal-plan-requires : tie.Need-literal-plan-requires
 literal-plan-requires c κs = search needs
 
 returns-4 : tie.Need-returns-4
-returns-4 c = simp (← c .before .before .before .before .before .before .before .before .before .before .before .before .literal .ensures, ← c .before .before .before .before .before .before .before .before .before .before .before .offset-plan .ensures, c .before .before .before .before .before .before .before .before .before .enum-told .given .1, ← c .before .before .before .before .before .before .before .before .range-at .ensures, ← c .before .before .before .before .before .before .before .range-at2 .ensures, ← c .before .before .before .before .before .before .compared-plan .ensures, c .before .before .before .before .enum-told3 .given .1, ← c .before .before .before .twice-plan .ensures, c .before .enum-told5 .given .1, ← c .literal-plan .ensures)
+returns-4 c = simp (← c .before .before .before .before .before .before .before .before .before .before .before .before .literal .ensures, ← c .before .before .before .before .before .before .before .before .before .before .before .offset-plan .ensures, c .before .before .before .before .before .before .before .before .before .enum-told .given .1, ← c .before .before .before .before .before .before .before .before .range-at .ensures, ← c .before .before .before .before .before .before .before .range-at2 .ensures, ← c .before .before .before .before .before .before .compared-plan .ensures, c .before .before .before .before .enum-told3 .given .1, ← c .before .before .before .with-itself-plan .ensures, c .before .enum-told5 .given .1, ← c .literal-plan .ensures)
 
 pub decided-plan-spec : {M : Type 1} → statement M
 decided-plan-spec =
@@ -68,7 +68,7 @@ decided-plan-spec =
     enum-told-3
     enum-told-4
     returns-2
-    twice-plan-requires
+    with-itself-plan-requires
     enum-told-5
     enum-told-6
     returns-3

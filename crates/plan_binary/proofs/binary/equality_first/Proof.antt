@@ -12,8 +12,8 @@ binary-plan-requires c κs = search needs
 returns : tie.Need-returns
 returns c = rw (← c .before .before .is-equality .ensures, not-true (c .before .before .is-equality .result) (c .before .if1 .taken), c .binary-plan .ensures)
 
-masked-comparison-requires : tie.Need-masked-comparison-requires
-masked-comparison-requires c κs = search needs
+fold-masked-comparison-requires : tie.Need-fold-masked-comparison-requires
+fold-masked-comparison-requires c κs = search needs
 
 enum-known-comparison : tie.Need-enum-known-comparison
 enum-known-comparison c = search needs
@@ -25,10 +25,10 @@ binary-plan-requires-2 : tie.Need-binary-plan-requires-2
 binary-plan-requires-2 c κs = search needs
 
 returns-2 : tie.Need-returns-2
-returns-2 c = rw (← c .before .before .before .before .before .is-equality .ensures, not-false (c .before .before .before .before .before .is-equality .result) (c .before .before .before .before .if1 .left), ← c .before .before .before .masked-comparison .ensures, c .before .comparison .given .1)
+returns-2 c = rw (← c .before .before .before .before .before .is-equality .ensures, not-false (c .before .before .before .before .before .is-equality .result) (c .before .before .before .before .if1 .left), ← c .before .before .before .fold-masked-comparison .ensures, c .before .comparison .given .1)
 
 returns-3 : tie.Need-returns-3
-returns-3 c = rw (← c .before .before .before .before .before .is-equality .ensures, not-false (c .before .before .before .before .before .is-equality .result) (c .before .before .before .before .if1 .left), ← c .before .before .before .masked-comparison .ensures, c .before .enum-told .given .1, c .binary-plan2 .ensures)
+returns-3 c = rw (← c .before .before .before .before .before .is-equality .ensures, not-false (c .before .before .before .before .before .is-equality .result) (c .before .before .before .before .if1 .left), ← c .before .before .before .fold-masked-comparison .ensures, c .before .enum-told .given .1, c .binary-plan2 .ensures)
 
 pub equality-first-spec : {M : Type 1} → statement M
 equality-first-spec =
@@ -37,7 +37,7 @@ equality-first-spec =
     is-equality-requires
     binary-plan-requires
     returns
-    masked-comparison-requires
+    fold-masked-comparison-requires
     enum-known-comparison
     enum-told
     binary-plan-requires-2

@@ -12,8 +12,8 @@ le-requires c κs = search needs
 returns : tie.Need-returns
 returns c = rw (← c .before .before .mask .ensures, ← c .before .le .ensures, not-true (c .before .le .result) (c .if1 .taken))
 
-chain-at-requires : tie.Need-chain-at-requires
-chain-at-requires c κs = search needs
+by-constant-at-requires : tie.Need-by-constant-at-requires
+by-constant-at-requires c κs = search needs
 
 enum-known-inner : tie.Need-enum-known-inner
 enum-known-inner c = search needs
@@ -26,11 +26,11 @@ enum-told c = search needs
 
 returns-2 : tie.Need-returns-2
 returns-2 c =
-    rw (← c .before .before .before .before .before .before .before .mask .ensures, ← c .before .before .before .before .before .before .le .ensures, not-false (c .before .before .before .before .before .before .le .result) (c .before .before .before .before .before .if1 .left), ← c .before .before .before .before .chain-at .ensures, c .before .before .inner .given .1)
+    rw (← c .before .before .before .before .before .before .before .mask .ensures, ← c .before .before .before .before .before .before .le .ensures, not-false (c .before .before .before .before .before .before .le .result) (c .before .before .before .before .before .if1 .left), ← c .before .before .before .before .by-constant-at .ensures, c .before .before .inner .given .1)
     (c .offset-compared .ensures)
 
 returns-3 : tie.Need-returns-3
-returns-3 c = rw (← c .before .before .before .before .before .mask .ensures, ← c .before .before .before .before .le .ensures, not-false (c .before .before .before .before .le .result) (c .before .before .before .if1 .left), ← c .before .before .chain-at .ensures, c .enum-told .given .1)
+returns-3 c = rw (← c .before .before .before .before .before .mask .ensures, ← c .before .before .before .before .le .ensures, not-false (c .before .before .before .before .le .result) (c .before .before .before .if1 .left), ← c .before .before .by-constant-at .ensures, c .enum-told .given .1)
 
 pub offset-bits-spec : {M : Type 1} → statement M
 offset-bits-spec =
@@ -39,7 +39,7 @@ offset-bits-spec =
     mask-requires
     le-requires
     returns
-    chain-at-requires
+    by-constant-at-requires
     enum-known-inner
     offset-compared-requires
     enum-told

@@ -14,23 +14,23 @@ returns c = simp (← c .before .before .before .remainder-plan .ensures, c .bef
 enum-told : tie.Need-enum-told
 enum-told c = search needs
 
-chain-at-requires : tie.Need-chain-at-requires
-chain-at-requires c κs = search needs
+by-constant-at-requires : tie.Need-by-constant-at-requires
+by-constant-at-requires c κs = search needs
 
 enum-known-inner : tie.Need-enum-known-inner
 enum-known-inner c = search needs
 
-sum-twice-requires : tie.Need-sum-twice-requires
-sum-twice-requires c κs = search needs
+sum-of-sum-requires : tie.Need-sum-of-sum-requires
+sum-of-sum-requires c κs = search needs
 
 enum-told-2 : tie.Need-enum-told-2
 enum-told-2 c = search needs
 
 returns-2 : tie.Need-returns-2
-returns-2 c = simp (← c .before .before .before .before .before .before .before .remainder-plan .ensures, c .before .before .before .before .before .enum-told .given .1, ← c .before .before .before .before .chain-at .ensures, c .before .before .inner .given .1, ← c .sum-twice .ensures)
+returns-2 c = simp (← c .before .before .before .before .before .before .before .remainder-plan .ensures, c .before .before .before .before .before .enum-told .given .1, ← c .before .before .before .before .by-constant-at .ensures, c .before .before .inner .given .1, ← c .sum-of-sum .ensures)
 
 returns-3 : tie.Need-returns-3
-returns-3 c = simp (← c .before .before .before .before .before .remainder-plan .ensures, c .before .before .before .enum-told .given .1, ← c .before .before .chain-at .ensures, c .enum-told2 .given .1)
+returns-3 c = simp (← c .before .before .before .before .before .remainder-plan .ensures, c .before .before .before .enum-told .given .1, ← c .before .before .by-constant-at .ensures, c .enum-told2 .given .1)
 
 pub sum-of-constant-spec : {M : Type 1} → statement M
 sum-of-constant-spec =
@@ -40,9 +40,9 @@ sum-of-constant-spec =
     enum-known-remainder
     returns
     enum-told
-    chain-at-requires
+    by-constant-at-requires
     enum-known-inner
-    sum-twice-requires
+    sum-of-sum-requires
     enum-told-2
     returns-2
     returns-3)

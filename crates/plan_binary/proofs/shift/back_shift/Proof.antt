@@ -19,7 +19,7 @@ sub-offset c =
     let a = c .before .before .before .before .before .before .args in
     let p = c .before .before .before .before .before .before .pre in
     let r : a .width < 2 ^ 16 = search needs in
-    let h : val (a .chain .value) ≤ val (a .count) = leb-true _ _ (sym (c .before .before .before .le .ensures) ∙ c .before .before .if1 .taken) in
+    let h : val (a .shape .value) ≤ val (a .count) = leb-true _ _ (sym (c .before .before .before .le .ensures) ∙ c .before .before .if1 .taken) in
     omega (arith, p .0, p .1, h, r)
 
 cast-t11 : tie.Need-cast-t11
@@ -38,10 +38,10 @@ returns c =
     let a = c .before .before .before .before .before .before .before .args in
     let p = c .before .before .before .before .before .before .before .pre in
     let r : a .width < 2 ^ 16 = search needs in
-    let first = low-word (a .chain .value) (a .width) r (p .1) in
+    let first = low-word (a .shape .value) (a .width) r (p .1) in
     let count = low-word (a .count) (a .width) r (p .0) in
     let part = low-part (a .count) (a .width) r (p .0) in
-    rw (← c .before .before .before .before .le .ensures, c .before .before .before .if1 .taken) (λ i. sliceIdentity (a .chain .base .0) (count i - first i) (a .width - part i) (ty.Bits (a .width)))
+    rw (← c .before .before .before .before .le .ensures, c .before .before .before .if1 .taken) (λ i. sliceIdentity (a .shape .base .0) (count i - first i) (a .width - part i) (ty.Bits (a .width)))
 
 sub-t13 : tie.Need-sub-t13
 unfolding val
@@ -49,7 +49,7 @@ sub-t13 c =
     let a = c .before .before .before .before .before .before .args in
     let p = c .before .before .before .before .before .before .pre in
     let r : a .width < 2 ^ 16 = search needs in
-    let h : val (a .count) < val (a .chain .value) = leb-false _ _ (sym (c .before .before .before .le .ensures) ∙ c .before .before .if1 .left) in
+    let h : val (a .count) < val (a .shape .value) = leb-false _ _ (sym (c .before .before .before .le .ensures) ∙ c .before .before .if1 .left) in
     omega (arith, p .0, p .1, h, r)
 
 cast-t14 : tie.Need-cast-t14
@@ -68,9 +68,9 @@ returns-2 c =
     let a = c .before .before .before .before .before .before .before .args in
     let p = c .before .before .before .before .before .before .before .pre in
     let r : a .width < 2 ^ 16 = search needs in
-    let part = low-part (a .chain .value) (a .width) r (p .1) in
-    let rest = low-difference (a .chain .value) (a .count) (a .width) r (p .1) (p .0) in
-    rw (← c .before .before .before .before .le .ensures, c .before .before .before .if1 .left) (λ i. sliceShift (a .chain .base .0) (a .width - part i) (ty.Bits (a .width)) (rest i))
+    let part = low-part (a .shape .value) (a .width) r (p .1) in
+    let rest = low-difference (a .shape .value) (a .count) (a .width) r (p .1) (p .0) in
+    rw (← c .before .before .before .before .le .ensures, c .before .before .before .if1 .left) (λ i. sliceShift (a .shape .base .0) (a .width - part i) (ty.Bits (a .width)) (rest i))
 
 pub back-shift-spec : {M : Type 1} → statement M
 back-shift-spec =

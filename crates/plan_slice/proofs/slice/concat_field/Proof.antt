@@ -2,8 +2,8 @@ use borrow.Author.Needs.{needs}
 use Rattle.plan_slice.proofs.slice.concat_field.Statement.{statement}
 use Rattle.plan_slice.proofs.slice.concat_field.Tie as tie
 
-bitfield-requires : tie.Need-bitfield-requires
-bitfield-requires c κs = search needs
+fold-bitfield-concat-requires : tie.Need-fold-bitfield-concat-requires
+fold-bitfield-concat-requires c κs = search needs
 
 enum-known-bits : tie.Need-enum-known-bits
 enum-known-bits c = search needs
@@ -18,16 +18,16 @@ concat-plan-requires : tie.Need-concat-plan-requires
 concat-plan-requires c κs = search needs
 
 returns : tie.Need-returns
-returns c = simp (← c .before .before .before .before .bitfield .ensures, c .before .before .bits .given .1, ← c .field-plan .ensures)
+returns c = simp (← c .before .before .before .before .fold-bitfield-concat .ensures, c .before .before .bits .given .1, ← c .field-plan .ensures)
 
 returns-2 : tie.Need-returns-2
-returns-2 c = simp (← c .before .before .before .bitfield .ensures, c .before .enum-told .given .1, ← c .concat-plan .ensures)
+returns-2 c = simp (← c .before .before .before .fold-bitfield-concat .ensures, c .before .enum-told .given .1, ← c .concat-plan .ensures)
 
 pub concat-field-spec : {M : Type 1} → statement M
 concat-field-spec =
     tie.close
     (tie.spec
-    bitfield-requires
+    fold-bitfield-concat-requires
     enum-known-bits
     field-plan-requires
     enum-told

@@ -1,9 +1,9 @@
 -- `Range::filtered` meets its contract, test by test.
 use Rattle.range.proofs.Types.{mask-signed}
 use Rattle.range.specs.Interval.{boundsOf, filtered}
-use Rattle.word.specs.Value.{only}
 use borrow.Author.Tests.{lt-ltb, le-ltb}
 use mathlib.Core.Path.{_≡_, _∙_}
+use Rattle.word.specs.Option.{only}
 use borrow.Author.Needs.{needs}
 use Rattle.range.proofs.Range.filtered.Statement.{statement}
 use Rattle.range.proofs.Range.filtered.Tie as tie

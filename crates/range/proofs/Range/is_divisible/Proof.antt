@@ -1,5 +1,6 @@
 -- `Range::is_divisible` meets its contract, test by test.
-use Rattle.range.specs.Interval.{one, divisible}
+use mathlib.Core.Bool.{_||_}
+use Rattle.range.specs.Interval.{divisible}
 use Rattle.word.specs.Value.{intOf}
 use lib.Signed.{ltZ}
 use lib.IntN.{pos}
@@ -9,7 +10,7 @@ use borrow.Author.Needs.{needs}
 use Rattle.range.proofs.Range.is_divisible.Statement.{statement}
 use Rattle.range.proofs.Range.is_divisible.Tie as tie
 
-no-zero : (c : tie.Joined1) → let b = c .before .before .before .before .args .divisor in c .if1 .if2 ≡ one (ltZ (pos 0) (intOf (b .min))) (ltZ (intOf (b .max)) (pos 0))
+no-zero : (c : tie.Joined1) → let b = c .before .before .before .before .args .divisor in c .if1 .if2 ≡ ltZ (pos 0) (intOf (b .min)) || ltZ (intOf (b .max)) (pos 0)
 unfolding intOf
 no-zero c =
     ⊎-elim (λ w. rw (w .1, ← c .before .lt .ensures, w .0 .taken)) (λ w. rw (w .2, w .1 .ensures, ← c .before .lt .ensures, w .0 .left)) (c .if1 .came)

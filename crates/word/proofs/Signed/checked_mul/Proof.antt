@@ -1,11 +1,12 @@
 -- `Signed::checked_mul` meets its contract: the product of the magnitudes, with its sign.
 use Rattle.word.proofs.Magnitudes.{answered, product-sign, product-past}
 use Rattle.word.specs.Step.{withSign, differ}
-use Rattle.word.specs.Value.{val, intOf, fitted, isNeg, only, numberOf}
+use Rattle.word.specs.Value.{val, intOf, fitted, isNeg, numberOf}
 use lib.IntN.{natAbs}
 use lib.Dec.{ltb}
 use Prim.Native.Nat.{_*_, _^_}
 use mathlib.Core.Path.{_≡_, sym, ap, _∙_}
+use Rattle.word.specs.Option.{only}
 use borrow.Author.Needs.{needs}
 use Rattle.word.proofs.Signed.checked_mul.Statement.{statement}
 use Rattle.word.proofs.Signed.checked_mul.Tie as tie

@@ -1,0 +1,32 @@
+// The refusals that calls answer with.
+ghost use mathlib.Core.Path.{_≡_};
+ghost use Rattle.answer.specs.Refusal.{refusalNumber};
+
+// The questions put to a call, in their order: what a no to each refuses.
+pub enum Refusal {
+    Graph,
+    Width,
+    Id,
+    Typing,
+    Value,
+    Keep,
+    Room,
+    Units,
+}
+
+impl Refusal {
+    pub fn number(self) -> u64
+        ensures { λ r. ⌜ r ≡ refusalNumber self ⌝ }
+    {
+        match self {
+            Refusal::Graph => 1,
+            Refusal::Width => 2,
+            Refusal::Id => 3,
+            Refusal::Typing => 4,
+            Refusal::Value => 5,
+            Refusal::Keep => 6,
+            Refusal::Room => 7,
+            Refusal::Units => 8,
+        }
+    }
+}

@@ -1,0 +1,26 @@
+use mathlib.Core.Path.{ap, _∙_}
+use Rattle.native.specs.Retain.{Retention, outcomeNumber}
+use borrow.Author.Needs.{needs}
+use Rattle.export.proofs.retain_nodes.scalars_retain.Statement.{statement}
+use Rattle.export.proofs.retain_nodes.scalars_retain.Tie as tie
+
+retain-requires : tie.Need-retain-requires
+retain-requires c κs = search needs
+
+number-requires : tie.Need-number-requires
+number-requires c κs = search needs
+
+same-length : tie.Need-same-length
+same-length c = search needs
+
+same-length-2 : tie.Need-same-length-2
+same-length-2 c = search needs
+
+returns : tie.Need-returns
+returns c =
+    let e = c .before .before .before .before .before .retain .ensures in
+    (c .number .ensures ∙ ap (λ (r : Retention). outcomeNumber (r .outcome)) e, ap (λ (r : Retention). r .words) e, ap (λ (r : Retention). r .mapping) e)
+
+pub scalars-retain-spec : {M : Type 1} → statement M
+scalars-retain-spec =
+    tie.close (tie.spec retain-requires number-requires same-length same-length-2 returns)

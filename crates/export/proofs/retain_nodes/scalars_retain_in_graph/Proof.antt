@@ -1,0 +1,26 @@
+use mathlib.Core.Path.{ap, _∙_}
+use Rattle.native.specs.Retain.{Retention, outcomeNumber}
+use borrow.Author.Needs.{needs}
+use Rattle.export.proofs.retain_nodes.scalars_retain_in_graph.Statement.{statement}
+use Rattle.export.proofs.retain_nodes.scalars_retain_in_graph.Tie as tie
+
+retain-in-graph-requires : tie.Need-retain-in-graph-requires
+retain-in-graph-requires c κs = search needs
+
+number-requires : tie.Need-number-requires
+number-requires c κs = search needs
+
+same-length : tie.Need-same-length
+same-length c = search needs
+
+same-length-2 : tie.Need-same-length-2
+same-length-2 c = search needs
+
+returns : tie.Need-returns
+returns c =
+    let e = c .before .before .before .before .before .retain-in-graph .ensures in
+    (c .number .ensures ∙ ap (λ (r : Retention). outcomeNumber (r .outcome)) e, ap (λ (r : Retention). r .words) e, ap (λ (r : Retention). r .mapping) e)
+
+pub scalars-retain-in-graph-spec : {M : Type 1} → statement M
+scalars-retain-in-graph-spec =
+    tie.close (tie.spec retain-in-graph-requires number-requires same-length same-length-2 returns)
