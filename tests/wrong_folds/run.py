@@ -74,17 +74,17 @@ WRONG = [
      "(record { id = n; val = v } ∷ []); conditions = cs ++ b .conditions", "(record { id = n; val = v } ∷ []); conditions = b .conditions"),
     ("an effect whose type is not noted", "meaning", "Book",
      "requestConditions look (asks.effect i t) = effectIs i t ∷ []", "requestConditions look (asks.effect i t) = []"),
-    ("a second operand's id that is not asked", "native", "Request",
+    ("a second operand's id that is not asked", "request", "Request",
      "ids (binary t o l r) = l ∷ r ∷ []", "ids (binary t o l r) = l ∷ []"),
-    ("a parameter's width that is not asked", "native", "Request",
+    ("a parameter's width that is not asked", "request", "Request",
      "widths (unary t o v) = typeWidth t ∷ unaryWidth o ∷ []", "widths (unary t o v) = typeWidth t ∷ []"),
-    ("a guard on a condition that is no Bool", "native", "Request",
+    ("a guard on a condition that is no Bool", "request", "Request",
      "typed g (guard n e) = sameType (typeAt g n) ty.Bool", "typed g (guard n e) = true"),
-    ("codes that name nothing, taken for typed", "native", "Request",
+    ("codes that name nothing, taken for typed", "request", "Request",
      "typed g (unnamed ws is) = false", "typed g (unnamed ws is) = true"),
-    ("a Bool constant of 2", "native", "Request",
+    ("a Bool constant of 2", "request", "Request",
      "isBoolValue ty.Bool v = ltb v 2", "isBoolValue ty.Bool v = ltb v 3"),
-    ("an input's range outside its type", "native", "Request",
+    ("an input's range outside its type", "request", "Request",
      "leZ (a .low) (a .high) && insideType t a", "leZ (a .low) (a .high) && insideType ty.Integer a"),
     ("a guard whose condition is not noted", "meaning", "Book",
      "record { lines = b .lines; conditions = cs ++ b .conditions }", "record { lines = b .lines; conditions = b .conditions }"),
@@ -126,12 +126,18 @@ WRONG = [
      "behind g k i (not e))", "behind g k i e)"),
     ("an alias to another node than the Refine", "assume", "Refine",
      "aliasTo n a (insert.id m) h = step narrowed (baseOf (aliased h n m) n a) (aliased h n m)", "aliasTo n a (insert.id m) h = step narrowed (baseOf (aliased h n m) n a) (aliased h n n)"),
+    ("records that are read after a bad one", "meaning", "Program",
+     "next s r = cond (s .isOver) s (more", "next s r = cond false s (more"),
+    ("a record's region that is not carried to the next", "meaning", "Program",
+     "graph = e .graph; mapping = e .mapping }", "graph = s .graph; mapping = e .mapping }"),
+    ("a line that is the answer on the graph after its call", "meaning", "Program",
+     "linesOf ρ before ++ lineOf (play ρ before .graph) a", "linesOf ρ before ++ lineOf (play ρ (a ∷ before) .graph) a"),
 ]
 
 
 def types_of(text):
     """The types of a source file, and the `use` lines that they need."""
-    found = re.findall(r"(?:^//[^\n]*\n)*^pub (?:enum|struct) \w+\s*(?:\([^)]*\);|\{.*?^\})", text, re.M | re.S)
+    found = re.findall(r"(?:^//[^\n]*\n)*^(?:pub )?(?:enum|struct) \w+\s*(?:\([^)]*\);|\{.*?^\})", text, re.M | re.S)
     uses = re.findall(r"^use (?!crate)\w+::[A-Z]\w*;\n", text, re.M)
     named = [u for u in uses if re.search(r"\b%s\b" % re.search(r"(\w+);", u).group(1), "\n".join(found))]
     return "".join(named) + "\n" + "\n\n".join(found) + "\n" if found else ""
@@ -157,8 +163,8 @@ def without_code(source, target, laws):
 
 
 def needed_laws():
-    """The files of proofs/ that demand 3 stands on, by crate: a law that it does not cite would refuse for its own sake."""
-    laws, todo = {}, [("meaning", "Demand3")]
+    """The files of proofs/ that demand 3 and the program's theorem stand on, by crate: a law that it does not cite would refuse for its own sake."""
+    laws, todo = {}, [("meaning", "Demand3"), ("meaning", "Program")]
     while todo:
         crate, law = todo.pop()
         if law in laws.setdefault(crate, set()):
@@ -171,7 +177,7 @@ def needed_laws():
 
 def copy(room):
     lines, laws = [], needed_laws()
-    needed = ["bits", "word", "answer", "range", "evaluate", "graph", "fold", "bitfield", "plan", "plan_slice", "plan_binary", "guard", "assume", "build", "retain", "native", "meaning"]
+    needed = ["bit_laws", "word", "answer", "text", "request", "record", "range", "evaluate", "graph", "fold", "bitfield", "plan", "plan_slice", "plan_binary", "guard", "assume", "build", "retain", "native", "meaning"]
     for line in (ROOT / "crates.txt").read_text().splitlines():
         name = line.partition(":")[0]
         if name in needed:
@@ -194,7 +200,7 @@ def main():
     copy(room)
     if (first := check(room)) is not None:
         sys.exit(f"the copy itself is not proved: {first}")
-    print("# Wrong definitions, where the proof of demand 3 stops\n")
+    print("# Wrong definitions, where the proofs of demand 3 and of the program's theorem stop\n")
     print("Made by `python3 tests/wrong_folds/run.py`: in a copy of the crates without their code, where no contract can refuse a definition,")
     print("each wrong definition is put in alone. The declarations that the prover refuses are named, but for those that only cite one of them: where the proof stops. It is no counterexample.\n")
     print("| wrong | definition in | refused |\n|---|---|---|")

@@ -1,3 +1,3 @@
-pub mod Codes
+pub mod Numbers
 pub mod Export
 pub mod Reading

@@ -18,7 +18,7 @@ use Rattle.native.specs.Call.{answerNumber, refusedAs, question3}
 use Rattle.native.specs.Call as native
 use Rattle.native.specs.Guard as reading
 use Rattle.native.specs.Guard.{Reading, guardInGraph}
-use Rattle.export.specs.Codes.{typeByCode, unaryByCode, binaryByCode, truthByNumber}
+use Rattle.request.specs.Codes.{typeByCode, unaryByCode, binaryByCode, truthByNumber}
 use Rattle.export.specs.Export.{Exported, exported, WRONG_LENGTH}
 
 -- words go into a slice of that length

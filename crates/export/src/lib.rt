@@ -1,6 +1,5 @@
 // The calls for C and Rust: numbers and slices alone.
 pub mod calls;
-pub mod codes;
 pub mod reading;
 pub mod requests;
 pub mod retain_nodes;

@@ -15,13 +15,6 @@ ghost use Rattle.native.specs.Call.{answerNumber, literalInGraph, literalCall, 
 ghost use Rattle.native.specs.Guard.{readingOf};
 ghost use Rattle.export.specs.Export.{exported};
 ghost use Rattle.export.specs.Reading.{written, unaryEvaluated, binaryEvaluated, masked, wordsAt, nodeInGraph, nodeCall, guardWords, guardWritten, guardByNumber, guardNumbered, matchNumber, valuesGuard, matchesByCode};
-use crate::codes::MaybeBinary;
-use crate::codes::MaybeType;
-use crate::codes::MaybeUnary;
-use crate::codes::binary_by_code;
-use crate::codes::truth_by_number;
-use crate::codes::type_by_code;
-use crate::codes::unary_by_code;
 use answer::Refusal;
 use evaluate::Evaluated;
 use evaluate::code::WIDEST_WORD;
@@ -42,6 +35,13 @@ use native::Guarded;
 use native::reading;
 use native::refused_as;
 use range::typed::mask;
+use request::codes::MaybeBinary;
+use request::codes::MaybeType;
+use request::codes::MaybeUnary;
+use request::codes::binary_by_code;
+use request::codes::truth_by_number;
+use request::codes::type_by_code;
+use request::codes::unary_by_code;
 use word::Word;
 
 // The answer where a lent slice has another length than the words for it.

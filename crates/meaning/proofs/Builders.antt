@@ -20,7 +20,7 @@ use Rattle.plan_slice.specs.Slice.{sliceFirst, concatFirst}
 use Rattle.plan_binary.specs.Binary.{binaryFirst}
 use Rattle.build.specs.Build.{Call, identity, unary, modular, binary, slice, concat, step, build}
 use Rattle.build.specs.Rest.{restPlan}
-use Rattle.native.specs.Typing.{unaryTyped, concatTyped}
+use Rattle.request.specs.Typing.{unaryTyped, concatTyped}
 use Rattle.meaning.specs.Value.{valued, andThen, unaryMeans, binaryMeans, sliceMeans, concatMeans}
 use Rattle.meaning.proofs.Worlds.{World, value}
 use Rattle.meaning.proofs.Binary.{binary-first-claim}

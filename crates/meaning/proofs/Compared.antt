@@ -29,8 +29,8 @@ use Rattle.evaluate.specs.declared.Binary.{Binary}
 use Rattle.evaluate.specs.declared.Binary.the-variants as bi
 use Rattle.evaluate.proofs.Fields.{residue-narrow}
 use Rattle.evaluate.proofs.Shifts.{shift-left, shift-right, arithmetic}
-use Rattle.bits.proofs.Logic.{and-assoc, or-assoc, xor-assoc, and-or}
-use Rattle.bits.proofs.Sums.{sub-same, sub-exact}
+use Rattle.bit_laws.proofs.Logic.{and-assoc, or-assoc, xor-assoc, and-or}
+use Rattle.bit_laws.proofs.Sums.{sub-same, sub-exact}
 use Rattle.fold.specs.Range.{apart, equalRanges, lessRanges, lessEqualRanges, unsignedToo, comparison}
 use Rattle.fold.specs.Operator.{comparisons}
 use Rattle.fold.specs.Shape.{mask}

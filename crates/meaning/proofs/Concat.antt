@@ -33,8 +33,8 @@ use Rattle.plan.specs.Plan.{Plan, First, does, tries, concatRest}
 use Rattle.plan_slice.specs.Slice.{concatPlan, joined, Cut, cutOf, adjacent, fieldPlan, concatField, concatOpen, joinedPlan, concatFirst}
 use Rattle.build.specs.Rest.{restPlan}
 use Rattle.build.specs.Build.{concat}
-use Rattle.native.specs.Typing.{concatTyped}
-use Rattle.bits.proofs.Slices.{slice-high, slice-low, slice-join}
+use Rattle.request.specs.Typing.{concatTyped}
+use Rattle.bit_laws.proofs.Slices.{slice-high, slice-low, slice-join}
 use Rattle.meaning.specs.Value.{valued, andThen, binaryMeans, sliceMeans, concatMeans}
 use Rattle.meaning.proofs.Worlds.{World, operand, value}
 use Rattle.meaning.proofs.Values.{typed-is, then-is, means-small}

@@ -28,12 +28,12 @@ use Rattle.graph.specs.Node.{Op, typeAt, operationAt}
 use Rattle.graph.specs.Insert.{start, literalOf, literal}
 use Rattle.fold.specs.Shape.{sameType, sameBinary, mask, ByConstant, withConstant, byConstantOf, byConstantAt}
 use Rattle.bitfield.specs.Bitfield.{Bit, known, source, BitStep, here, from, flipped, hasBit, above, maskedBit, unaryBit, bitOf, bitStep, negatedBit, reached, DEPTH, bitAt, Field, noBits, power, sameBase, withBit, concatBit, fieldFrom, lowFits, foldBitfieldConcat, Mask, Update, updateOf, updateAt, Look, next, end, found, keeps, changedBits, lookTyped, lookAt, firstFound, foldMaskedComparison}
-use Rattle.native.specs.Typing.{concatTyped}
+use Rattle.request.specs.Typing.{concatTyped}
 use Rattle.range.proofs.Sound.{tests}
 use Rattle.range.proofs.Answers.{none-some, some-is, provided-is}
-use Rattle.bits.specs.Bit.{bit}
-use Rattle.bits.proofs.Bit.{bit-lt, bit-zero, bit-ext, bit-and, bit-or, bit-xor, bit-big, bit-shr, bit-mod, bit-mod-big, bit-high, bit-low-part}
-use Rattle.bits.proofs.Logic.{field-kept, kept-field}
+use Rattle.bit_laws.specs.Bit.{bit}
+use Rattle.bit_laws.proofs.Bit.{bit-lt, bit-zero, bit-ext, bit-and, bit-or, bit-xor, bit-big, bit-shr, bit-mod, bit-mod-big, bit-high, bit-low-part}
+use Rattle.bit_laws.proofs.Logic.{field-kept, kept-field}
 use Rattle.meaning.specs.Value.{size, ofType, valued, andThen, binaryMeans}
 use Rattle.meaning.proofs.Worlds.{World, operationMeans, operand, value}
 use Rattle.meaning.proofs.Answers.{binary-is, by-test, by-given, given-is}

@@ -31,7 +31,7 @@ use Rattle.graph.proofs.Grown.{Graph, graph-facts, width-of, start-le, resolve-
 use Rattle.graph.proofs.Interned.{same-key, lowest-some}
 use Rattle.graph.proofs.Nodes.{Holds, type-read, range-read, operation-read, length-words, appended-made, appended-full, appended-count, appended-other, appended-new, node-other}
 use Rattle.fold.specs.Shape.{sameType, narrowType, sameBinary}
-use Rattle.native.specs.Typing.{isNumber, unaryTyped, binaryTyped, concatTyped}
+use Rattle.request.specs.Typing.{isNumber, unaryTyped, binaryTyped, concatTyped}
 use Rattle.meaning.specs.Value.{size, integerOf}
 use Rattle.meaning.proofs.Worlds.{World, operationMeans, operand, value}
 use Rattle.meaning.proofs.Values.{value-same, value-step, means-same}

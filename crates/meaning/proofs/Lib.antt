@@ -29,3 +29,4 @@ pub mod Narrowed
 pub mod Assumed
 pub mod Guards
 pub mod Demand3
+pub mod Program

@@ -24,7 +24,7 @@ use Rattle.evaluate.specs.U128 as u128
 use Rattle.evaluate.specs.declared.Binary.{Binary}
 use Rattle.evaluate.specs.declared.Binary.the-variants as bi
 use Rattle.evaluate.proofs.Fields.{narrow}
-use Rattle.bits.proofs.Sums.{shift-to, shift-from}
+use Rattle.bit_laws.proofs.Sums.{shift-to, shift-from}
 use Rattle.graph.specs.Layout.{countOf}
 use Rattle.graph.specs.Node.{typeAt}
 use Rattle.graph.specs.Insert.{literal}
@@ -34,7 +34,7 @@ use Rattle.plan.specs.Plan as plan
 use Rattle.plan.specs.Plan.{Plan}
 use Rattle.plan_binary.specs.Binary.{offsetCompared, offsetTyped, offsetPlan, mergedPlan, subOfSub, sumPlan}
 use Rattle.build.specs.Build.{binary}
-use Rattle.native.specs.Typing.{isNumber, sameTypes, arithmetic}
+use Rattle.request.specs.Typing.{isNumber, sameTypes, arithmetic}
 use Rattle.meaning.specs.Value.{size, ofType, andThen, binaryMeans}
 use Rattle.meaning.proofs.Worlds.{World, value}
 use Rattle.meaning.proofs.Modular.{Residues, sum, difference, checked, checked-is, alike, in-bits, sub-low}

@@ -8,8 +8,8 @@ use lib.Pow.{pow-pos}
 use Rattle.word.proofs.Integer.{signed-mag, signed-residue, residue-lt}
 use Rattle.range.specs.Interval.{Interval}
 use Rattle.range.proofs.Answers.{none-some, some-is}
-use Rattle.native.specs.Request as asks
-use Rattle.native.specs.Request.{Request}
+use Rattle.request.specs.Request as asks
+use Rattle.request.specs.Request.{Request}
 use Rattle.meaning.specs.Book.{signedEnds, patterned}
 use Rattle.meaning.proofs.Invariant.{Ends}
 

@@ -21,7 +21,7 @@ use Rattle.plan.specs.Plan.{Plan, Attempt, First}
 use Rattle.bitfield.specs.Bitfield.{Mask}
 use Rattle.build.specs.Rest.{restPlan}
 use Rattle.build.specs.Build.{Call, identity, unary, modular, binary, slice, concat, Prog, call, constantThen, answer, tail, byConstant, planProg, maskProg, attemptProg, firstProg}
-use Rattle.native.specs.Typing.{concatTyped}
+use Rattle.request.specs.Typing.{concatTyped}
 use Rattle.meaning.specs.Value.{size, valued, andThen, unaryMeans, binaryMeans, sliceMeans, concatMeans}
 use Rattle.meaning.proofs.Worlds.{World, operationMeans, operand, value}
 use Rattle.meaning.proofs.Values.{then-is}

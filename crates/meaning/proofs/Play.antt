@@ -42,10 +42,11 @@ use Rattle.answer.specs.declared.Refusal.{Refusal}
 use Rattle.answer.specs.declared.Refusal.the-variants as no
 use Rattle.native.specs.Call as calls
 use Rattle.native.specs.Call.{Called, refusal}
-use Rattle.native.specs.Request as asks
-use Rattle.native.specs.Request.{Request, UNITS, allUpTo, allBelow, widths, ids, typed, isBoolValue, isRangeOf, declarable, settled, builderOut, guardOut, worked, finished, performed, requestInGraph, requestCall}
+use Rattle.request.specs.Request as asks
+use Rattle.request.specs.Request.{Request, allUpTo, allBelow, widths, ids, typed, isBoolValue, isRangeOf, declarable}
+use Rattle.native.specs.Perform.{UNITS, settled, builderOut, guardOut, worked, finished, performed, requestInGraph, requestCall}
 use Rattle.native.specs.Retain.{retainInGraph, retainCall}
-use Rattle.native.specs.Typing.{isNumber, binaryTyped}
+use Rattle.request.specs.Typing.{isNumber, binaryTyped}
 use Rattle.meaning.specs.Value.{Env, size, integerOf, ofType, valued, Operand, value, operand}
 use Rattle.meaning.proofs.Worlds.{World, operationMeans}
 use Rattle.meaning.specs.Book.{Action, request, retain, patterned, requestMeans, Line, Condition, inputIs, effectIs, holds, first, handed, requestConditions, keeps, renumbered, struck, State, called, kept, acted, act, play, AllMet, Right, AllRight}

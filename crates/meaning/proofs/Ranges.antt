@@ -36,7 +36,7 @@ use Rattle.graph.specs.Node.{Op}
 use Rattle.graph.specs.Insert.{constantInterval}
 use Rattle.fold.specs.Shape.{sameType, narrowType}
 use Rattle.fold.specs.Range.{negatedRange, heldTo, bitsRule, integerRule, unaryRange, binaryRange, Ranged, rangedAt, storedRange}
-use Rattle.native.specs.Typing.{isNumber, unaryTyped}
+use Rattle.request.specs.Typing.{isNumber, unaryTyped}
 use Rattle.meaning.specs.Value.{Env, Operand, size, integerOf, ofType, valued, andThen, operationMeans}
 use Rattle.meaning.proofs.Worlds.{World, value}
 use Rattle.meaning.proofs.Values.{typed-is, then-is, means-small}

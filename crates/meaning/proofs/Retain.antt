@@ -23,7 +23,7 @@ use Rattle.retain.specs.Retain.{isKept, hasFirst, hasSecond, keptBelow, newId, 
 use Rattle.retain.proofs.Operands.{KeepList, first-below, second-below, first-kept, second-kept}
 use Rattle.retain.proofs.Laws.{id-kept, kept-mono, kept-less, new-apart, retained-count, retained-word, retained-node}
 use Rattle.retain.proofs.Grown.{Origin, origin-of, retained-graph}
-use Rattle.native.specs.Typing.{unaryTyped, concatTyped}
+use Rattle.request.specs.Typing.{unaryTyped, concatTyped}
 use Rattle.graph.proofs.Appended.{wordsFor, Exact, Keys}
 use Rattle.meaning.specs.Value.{Operand}
 use Rattle.meaning.proofs.Worlds.{World, operationMeans, operand, value}

@@ -26,8 +26,8 @@ use Rattle.graph.specs.Insert.{literal}
 use Rattle.fold.specs.Operator.{zeroKeeps, zeroMakesZero, bitwise, comparisons, keptTwice, zeroTwice, trueTwice, falseTwice}
 use Rattle.fold.specs.Range.{comparison}
 use Rattle.fold.specs.Shape.{sameType, sameBinary, isAny, mask, ByConstant, byConstantAt}
-use Rattle.native.specs.Typing.{isNumber, sameTypes, shift}
-use Rattle.native.specs.Typing as typing
+use Rattle.request.specs.Typing.{isNumber, sameTypes, shift}
+use Rattle.request.specs.Typing as typing
 use Rattle.plan.specs.Plan as plan
 use Rattle.plan.specs.Plan.{Plan}
 use Rattle.plan_binary.specs.Binary.{truthPlan, comparedPlan, withItself, zeroPlan, onesPlan, rightPlan, mergedPlan, maskOfMask, maskPlan}

@@ -22,15 +22,15 @@ use Rattle.evaluate.specs.declared.Binary.the-variants as bi
 use Rattle.evaluate.proofs.Fields.{narrow}
 use Rattle.word.proofs.Shifts.{left-all, right-all}
 use Rattle.evaluate.proofs.Shifts.{shift-left, shift-right}
-use Rattle.bits.proofs.Bit.{bit-shl, bit-shl-low, bit-mod}
-use Rattle.bits.specs.Bit.{bit}
-use Rattle.bits.proofs.Slices as slices
+use Rattle.bit_laws.proofs.Bit.{bit-shl, bit-shl-low, bit-mod}
+use Rattle.bit_laws.specs.Bit.{bit}
+use Rattle.bit_laws.proofs.Slices as slices
 use Rattle.graph.specs.Layout.{LIMIT, countOf}
 use Rattle.graph.specs.Node.{typeAt, rangeAt}
 use Rattle.graph.specs.Insert.{literal}
 use Rattle.fold.specs.Operator.{shifts}
 use Rattle.fold.specs.Shape.{sameType, sameBinary, narrowType, fits, isAny, ByConstant, byConstantAt, refinedAt, down, origin}
-use Rattle.native.specs.Typing.{isNumber}
+use Rattle.request.specs.Typing.{isNumber}
 use Rattle.plan.specs.Plan as plan
 use Rattle.plan.specs.Plan.{Plan}
 use Rattle.plan_binary.specs.Binary.{isShiftedOut, backShift, shiftOfShift, shiftBy, shiftPlan}

@@ -35,7 +35,7 @@ use Rattle.plan.specs.Plan as plan
 use Rattle.plan.specs.Plan.{Plan}
 use Rattle.plan_slice.specs.Slice.{lowered, boundedPlan, newSlice, sliceConcat, sliceOperation, slicePart, slicePlan, sliceFirst}
 use Rattle.build.specs.Rest.{restPlan}
-use Rattle.bits.proofs.Slices.{slice-slice, slice-high, slice-low, slice-split}
+use Rattle.bit_laws.proofs.Slices.{slice-slice, slice-high, slice-low, slice-split}
 use Rattle.meaning.specs.Value.{size, valued, andThen, sliceMeans, concatMeans}
 use Rattle.meaning.proofs.Worlds.{World, operand, value}
 use Rattle.meaning.proofs.Values.{typed-is, then-is, means-small}

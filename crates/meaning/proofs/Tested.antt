@@ -22,9 +22,9 @@ use Rattle.graph.specs.Layout.{countOf}
 use Rattle.graph.specs.Node.{typeAt}
 use Rattle.fold.specs.Shape.{mask}
 use Rattle.build.specs.Build.{call, binary, byConstant, rangeProg, isTestable, rangeStep, unsignedRange, build}
-use Rattle.native.specs.Request as request
-use Rattle.native.specs.Request.{UNITS}
-use Rattle.bits.proofs.Sums.{Wrap, under, over, wrap, sub-exact}
+use Rattle.request.specs.Request as request
+use Rattle.native.specs.Perform.{UNITS}
+use Rattle.bit_laws.proofs.Sums.{Wrap, under, over, wrap, sub-exact}
 use Rattle.meaning.specs.Value.{size, ofType, binaryMeans}
 use Rattle.meaning.proofs.Worlds.{World, operand, value}
 use Rattle.meaning.specs.Book.{requestMeans}

@@ -11,7 +11,7 @@ use Rattle.graph.specs.Layout.{countOf}
 use Rattle.graph.specs.Node.{typeAt}
 use Rattle.graph.specs.Insert.{Reply, id, nothing, room, units, inserted}
 use Rattle.build.specs.Build.{Call, identity, unary, modular, binary, slice, concat, Out, out, Prog, give, add, call, tries, step, onId, onOut, onNone, exec, run, build}
-use Rattle.native.specs.Typing.{unaryTyped, concatTyped}
+use Rattle.request.specs.Typing.{unaryTyped, concatTyped}
 use Rattle.meaning.specs.Value.{valued, andThen, unaryMeans, binaryMeans, sliceMeans, concatMeans}
 use Rattle.meaning.proofs.Worlds.{World, operationMeans, operand, value}
 use Rattle.meaning.proofs.Invariant.{storedTyped, Inv, Storable, Kept, kept-refl, kept-trans, Found, Answered, insert-good}

@@ -38,7 +38,7 @@ use Rattle.graph.specs.Insert.{literal}
 use Rattle.fold.specs.Operator.{comparisons}
 use Rattle.fold.specs.Shape.{sameType}
 use Rattle.fold.specs.Range.{heldTo, bitsRule, integerRule, unaryRange, binaryRange, rangedAt}
-use Rattle.native.specs.Typing.{isBits, isNumber, unaryTyped}
+use Rattle.request.specs.Typing.{isBits, isNumber, unaryTyped}
 use Rattle.plan.specs.Plan.{constantOr}
 use Rattle.plan.specs.OneOperand.{isView, addOr, unaryPlan}
 use Rattle.meaning.specs.Value.{size, valued, andThen, unaryMeans}

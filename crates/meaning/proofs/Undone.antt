@@ -26,7 +26,7 @@ use Rattle.evaluate.specs.U128 as u128
 use Rattle.evaluate.specs.declared.Binary.{Binary}
 use Rattle.evaluate.specs.declared.Binary.the-variants as bi
 use Rattle.evaluate.proofs.Fields.{narrow, signed-narrow}
-use Rattle.bits.proofs.Sums.{Wrap, under, over, wrap}
+use Rattle.bit_laws.proofs.Sums.{Wrap, under, over, wrap}
 use Rattle.graph.specs.Layout.{countOf}
 use Rattle.graph.specs.Node.{typeAt}
 use Rattle.fold.specs.Shape.{sameType, isAny, ByConstant, byConstantAt, origin}

@@ -28,7 +28,7 @@ use Rattle.graph.specs.Layout.{countOf}
 use Rattle.graph.specs.Node as node
 use Rattle.graph.specs.Node.{typeAt, rangeAt, operationAt}
 use Rattle.fold.specs.Shape.{sameType, notNegative, fits}
-use Rattle.native.specs.Typing.{isNumber, sameTypes, arithmetic}
+use Rattle.request.specs.Typing.{isNumber, sameTypes, arithmetic}
 use Rattle.plan.specs.Plan as plan
 use Rattle.plan.specs.OneOperand.{viewPlan, identityPlan}
 use Rattle.meaning.specs.Value.{size, integerOf, ofType, valued, andThen, unaryMeans}

@@ -16,8 +16,9 @@ use Rattle.graph.specs.Layout.{REGION, countOf}
 use Rattle.graph.specs.Node.{typeAt, rangeAt}
 use Rattle.native.specs.Call as calls
 use Rattle.native.specs.Call.{Response, Called}
-use Rattle.native.specs.Request as asks
-use Rattle.native.specs.Request.{Request, requestCall}
+use Rattle.request.specs.Request as asks
+use Rattle.request.specs.Request.{Request}
+use Rattle.native.specs.Perform.{requestCall}
 use Rattle.native.specs.Retain as retaining
 use Rattle.native.specs.Retain.{Outcome, Retention, retainCall}
 use Rattle.meaning.specs.Value.{Env, size, integerOf, ofType, valued, andThen, Operand, unaryMeans, binaryMeans, sliceMeans, concatMeans, value}

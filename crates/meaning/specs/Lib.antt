@@ -1,3 +1,4 @@
 pub mod Value
 pub mod Book
 pub mod Guard
+pub mod Program

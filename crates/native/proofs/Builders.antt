@@ -24,7 +24,8 @@ use Rattle.build.specs.Build.{Out, out}
 use Rattle.build.proofs.Laws.{region}
 use Rattle.build.proofs.Kept.{build-kept, range-kept}
 use Rattle.native.specs.Call.{Response, Called, called, isRefused}
-use Rattle.native.specs.Request.{Request, constant, input, effect, unary, binary, slice, concat, unsignedRange, guard, unnamed, UNITS, settled, builderOut, guardOut, worked, finished, left}
+use Rattle.request.specs.Request.{Request, constant, input, effect, unary, binary, slice, concat, unsignedRange, guard, unnamed}
+use Rattle.native.specs.Perform.{UNITS, settled, builderOut, guardOut, worked, finished, left}
 
 -- ---- taking back
 

@@ -1,5 +1,4 @@
 pub mod Call
-pub mod Typing
-pub mod Request
+pub mod Perform
 pub mod Retain
 pub mod Guard

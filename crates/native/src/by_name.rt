@@ -5,12 +5,11 @@ ghost use Rattle.word.specs.Value.{val};
 ghost use Rattle.range.specs.Interval.{intervalOf};
 ghost use Rattle.graph.specs.WellFormed.{isGraph};
 ghost use Rattle.native.specs.Call.{answerOf, called};
-ghost use Rattle.native.specs.Request as asked;
-ghost use Rattle.native.specs.Request.{requestInGraph, requestCall};
+ghost use Rattle.request.specs.Request as asked;
+ghost use Rattle.native.specs.Perform.{requestInGraph, requestCall};
 use crate::Answer;
 use crate::perform::call;
 use crate::perform::call_in_graph;
-use crate::request::Request;
 use evaluate::Binary;
 use evaluate::Unary;
 use graph::EffectId;
@@ -18,6 +17,7 @@ use graph::InputId;
 use graph::NodeId;
 use range::MaybeRange;
 use range::ScalarType;
+use request::Request;
 use word::Word;
 
 pub fn constant_in_graph(g: &mut [u64], ty: ScalarType, value: Word) -> Answer

@@ -2,9 +2,7 @@
 pub mod by_name;
 pub mod perform;
 pub mod reading;
-pub mod request;
 pub mod retain_nodes;
-pub mod typing;
 
 ghost use mathlib.Core.Path.{_≡_};
 ghost use Rattle.native.specs.Call.{answerOf, answerNumber, refusedAs};

@@ -8,13 +8,9 @@ ghost use Rattle.graph.specs.Layout.{REGION, LIMIT};
 ghost use Rattle.graph.specs.WellFormed.{isGraph};
 ghost use Rattle.assume.specs.Assume.{assumedGuard};
 ghost use Rattle.native.specs.Call.{answerOf, called, isRefused};
-ghost use Rattle.native.specs.Request.{UNITS, requestOf, settled, guardOut, worked, performed, left, requestInGraph, requestCall};
+ghost use Rattle.request.specs.Request.{requestOf};
+ghost use Rattle.native.specs.Perform.{UNITS, settled, guardOut, worked, performed, left, requestInGraph, requestCall};
 use crate::Answer;
-use crate::request::Request;
-use crate::request::are_ids;
-use crate::request::are_widths;
-use crate::request::is_declarable;
-use crate::request::is_typed;
 use answer::Refusal;
 use assume::Outcome;
 use assume::guard_assumed;
@@ -29,6 +25,11 @@ use graph::layout::NODES;
 use graph::layout::count;
 use graph::leaf;
 use graph::well_formed::is_graph;
+use request::Request;
+use request::questions::are_ids;
+use request::questions::are_widths;
+use request::questions::is_declarable;
+use request::questions::is_typed;
 
 // The units of a call.
 pub const UNITS: u64 = 1024;

@@ -8,7 +8,7 @@ use crate::calls::perform;
 use crate::lines::MaybeFields;
 use crate::lines::fields_of;
 use crate::region::sums_of;
-use vector_lines::put_text_in_room;
+use text::put_text_in_room;
 use vector_lines::put_word_in_room;
 use word::Word;
 

@@ -1,10 +1,9 @@
--- Numbers as hex digits, and text in a slice.
-use mathlib.Core.Bool.{Bool, cond}
-use mathlib.Core.List.{List, [], _∷_, _++_}
+-- Numbers as hex digits.
+use mathlib.Core.Bool.{cond}
+use mathlib.Core.List.{List, [], _∷_}
 use mathlib.Core.Option.{Option, none, some}
 use Prim.Native.Nat.{ℕ, _+_, _-_, _*_}
-use lib.Dec.{leb, ltb}
-use lib.ListN.{length, take, drop}
+use lib.Dec.{ltb}
 use Rattle.word.specs.Option.{provided}
 use Rattle.io.specs.Digits.{digits}
 use Rattle.vector_lines.specs.declared.Number.{Number}
@@ -31,19 +30,3 @@ hexDigits k n = digits 16 k n
 abbrev pub numberIn : Number → Option ℕ
 numberIn (number.Value n) = some n
 numberIn number.Malformed = none
-
--- d with s in it from `at` on
-unfoldable pub placed : List ℕ → ℕ → List ℕ → List ℕ
-placed d at s = take at d ++ s ++ drop (at + length s) d
-
--- is there room for n bytes of d from `at` on?
-abbrev pub hasRoom : List ℕ → ℕ → ℕ → Bool
-hasRoom d at n = leb (at + n) (length d)
-
--- where n bytes from `at` on end, or `at` without room for them
-abbrev pub endOf : List ℕ → ℕ → ℕ → ℕ
-endOf d at n = cond (hasRoom d at n) (at + n) at
-
--- d with s, n bytes, in it from `at` on, or d without room for them
-abbrev pub placedIn : List ℕ → ℕ → ℕ → List ℕ → List ℕ
-placedIn d at n s = cond (hasRoom d at n) (placed d at s) d

@@ -1,11 +1,13 @@
-// The text of test vectors: hex digits that are read, and text that is put into a lent slice.
+// The text of test vectors: hex digits that are read, and words that are put into a lent slice in hex digits.
 ghost use mathlib.Core.Path.{_≡_};
 ghost use Prim.Native.Nat.{_+_, _≤_};
 ghost use lib.Dec.{eqb, leb};
 ghost use lib.ListN.{length};
 ghost use Rattle.word.specs.Value.{val, numberOf};
 ghost use Rattle.word.specs.Option.{provided};
-ghost use Rattle.vector_lines.specs.Text.{digitValue, spelled, hexDigits, numberIn, placed, endOf, placedIn};
+ghost use Rattle.text.specs.Text.{placed, endOf, placedIn};
+ghost use Rattle.vector_lines.specs.Text.{digitValue, spelled, hexDigits, numberIn};
+use text::put_text_in_room;
 use word::MaybeWord;
 use word::Word;
 
@@ -61,33 +63,6 @@ pub fn word_of(text: &[u8]) -> MaybeWord
         return MaybeWord::None;
     };
     MaybeWord::Some(Word { lo: lo, hi: hi })
-}
-
-// Puts text into out from `at` on, and answers where it ends.
-pub fn put_text_in_room(text: &[u8], out: &mut [u8], at: usize) -> usize
-    requires { ⌜ at + length (now text) ≤ length (now out) ⌝ }
-    ensures { λ r. ⌜ r ≡ at + length (now (text .entry)) ⌝ }
-    ensures { λ _. ⌜ now (out .exit) ≡ placed (now (out .entry)) at (now (text .entry)) ⌝ }
-{
-    let mut i = 0;
-    while i < text.len() {
-        out[at + i] = text[i];
-        i += 1;
-    }
-    at + text.len()
-}
-
-// The same where there is room for it, and else nothing.
-pub fn put_text(text: &[u8], out: &mut [u8], at: usize) -> usize
-    ensures { λ r. ⌜ r ≡ endOf (now (out .entry)) at (length (now (text .entry))) ⌝ }
-    ensures { λ _. ⌜ now (out .exit) ≡ placedIn (now (out .entry)) at (length (now (text .entry))) (now (text .entry)) ⌝ }
-{
-    if at <= out.len() {
-        if text.len() <= out.len() - at {
-            return put_text_in_room(text, out, at);
-        }
-    }
-    at
 }
 
 fn put_digits(text: &[u8; 16], out: &mut [u8], at: usize) -> usize

@@ -1,10 +1,7 @@
-use Prim.Native.Nat.{_+_}
-use denote.Ref.{now}
-use lib.ListN.{length}
--- `put_word` meets its contract: it writes where there is room.
-use borrow.Author.Tests.{le-leb, lt-leb}
+-- `vector_lines::put_word` meets its contract: it writes where there is room. Assumes nothing.
 use native.Mathlib.Omega.{arith}
 use borrow.Author.Needs.{needs}
+use Rattle.text.proofs.Placing.{written, unwritten}
 use Rattle.vector_lines.proofs.put_word.Statement.{statement}
 use Rattle.vector_lines.proofs.put_word.Tie as tie
 
@@ -18,19 +15,15 @@ same-length : tie.Need-same-length
 same-length c = search needs
 
 returns : tie.Need-returns
-returns c = let g = c .before .before .before .before .before .before .before .args in
-    let e = le-leb (g .at + 32) (length (now (g .out))) (omega arith) in
-    (rw e (c .before .before .put-word-in-room .ensures .0), rw e (c .before .before .put-word-in-room .ensures .1))
+returns c =
+    let put = c .before .before .put-word-in-room in
+    written _ _ _ _ (omega arith) (put .ensures .0) (put .ensures .1)
 
 returns-2 : tie.Need-returns-2
-returns-2 c = let g = c .before .before .before .args in
-    let e = lt-leb (g .at + 32) (length (now (g .out))) (omega arith) in
-    (rw e, rw e)
+returns-2 c = unwritten _ _ _ _ (omega arith)
 
 returns-3 : tie.Need-returns-3
-returns-3 c = let g = c .before .before .args in
-    let e = lt-leb (g .at + 32) (length (now (g .out))) (omega arith) in
-    (rw e, rw e)
+returns-3 c = unwritten _ _ _ _ (omega arith)
 
 pub put-word-spec : {M : Type 1} → statement M
 put-word-spec =

@@ -1,4 +1,4 @@
-use Rattle.export.specs.Codes.{binaryByCodes}
+use Rattle.export.specs.Numbers.{binaryByCodes}
 use borrow.Author.Needs.{needs}
 use Rattle.export.proofs.requests.binary_request.Statement.{statement}
 use Rattle.export.proofs.requests.binary_request.Tie as tie

@@ -1,4 +1,4 @@
-use Rattle.export.specs.Codes.{concatByNumbers}
+use Rattle.export.specs.Numbers.{concatByNumbers}
 use borrow.Author.Needs.{needs}
 use Rattle.export.proofs.requests.concat_request.Statement.{statement}
 use Rattle.export.proofs.requests.concat_request.Tie as tie

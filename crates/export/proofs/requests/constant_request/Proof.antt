@@ -1,4 +1,4 @@
-use Rattle.export.specs.Codes.{constantByCode}
+use Rattle.export.specs.Numbers.{constantByCode}
 use borrow.Author.Needs.{needs}
 use Rattle.export.proofs.requests.constant_request.Statement.{statement}
 use Rattle.export.proofs.requests.constant_request.Tie as tie

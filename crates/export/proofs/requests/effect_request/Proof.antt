@@ -1,4 +1,4 @@
-use Rattle.export.specs.Codes.{effectByCode}
+use Rattle.export.specs.Numbers.{effectByCode}
 use borrow.Author.Needs.{needs}
 use Rattle.export.proofs.requests.effect_request.Statement.{statement}
 use Rattle.export.proofs.requests.effect_request.Tie as tie

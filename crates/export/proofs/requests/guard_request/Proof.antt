@@ -1,4 +1,4 @@
-use Rattle.export.specs.Codes.{guardByNumbers}
+use Rattle.export.specs.Numbers.{guardByNumbers}
 use borrow.Author.Needs.{needs}
 use Rattle.export.proofs.requests.guard_request.Statement.{statement}
 use Rattle.export.proofs.requests.guard_request.Tie as tie

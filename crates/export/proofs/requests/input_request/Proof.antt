@@ -1,4 +1,4 @@
-use Rattle.export.specs.Codes.{inputByCode}
+use Rattle.export.specs.Numbers.{inputByCode}
 use borrow.Author.Needs.{needs}
 use Rattle.export.proofs.requests.input_request.Statement.{statement}
 use Rattle.export.proofs.requests.input_request.Tie as tie

@@ -1,4 +1,4 @@
-use Rattle.export.specs.Codes.{sliceByNumbers}
+use Rattle.export.specs.Numbers.{sliceByNumbers}
 use borrow.Author.Needs.{needs}
 use Rattle.export.proofs.requests.slice_request.Statement.{statement}
 use Rattle.export.proofs.requests.slice_request.Tie as tie

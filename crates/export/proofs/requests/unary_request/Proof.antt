@@ -1,4 +1,4 @@
-use Rattle.export.specs.Codes.{unaryByCodes}
+use Rattle.export.specs.Numbers.{unaryByCodes}
 use borrow.Author.Needs.{needs}
 use Rattle.export.proofs.requests.unary_request.Statement.{statement}
 use Rattle.export.proofs.requests.unary_request.Tie as tie

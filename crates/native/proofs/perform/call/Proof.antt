@@ -1,4 +1,4 @@
-use Rattle.native.specs.Request.{requestCall}
+use Rattle.native.specs.Perform.{requestCall}
 use mathlib.Core.Path.{sym, _∙_}
 use borrow.Author.Needs.{needs}
 use Rattle.native.proofs.perform.call.Statement.{statement}

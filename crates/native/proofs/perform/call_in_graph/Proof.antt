@@ -1,4 +1,4 @@
-use Rattle.native.specs.Request.{requestInGraph}
+use Rattle.native.specs.Perform.{requestInGraph}
 use borrow.Author.Needs.{needs}
 use Rattle.native.proofs.perform.call_in_graph.Statement.{statement}
 use Rattle.native.proofs.perform.call_in_graph.Tie as tie

@@ -1,6 +1,7 @@
 use Rattle.graph.proofs.Grown.{graph-facts}
 use Rattle.native.proofs.Builders.{taken-finished}
-use Rattle.native.specs.Request.{requestOf, performed}
+use Rattle.request.specs.Request.{requestOf}
+use Rattle.native.specs.Perform.{performed}
 use borrow.Author.Tests.{not-true, not-false}
 use mathlib.Core.Path.{sym, _∙_}
 use borrow.Author.Needs.{needs}

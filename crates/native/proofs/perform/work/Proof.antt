@@ -1,5 +1,5 @@
 use Rattle.graph.proofs.Grown.{graph-facts}
-use Rattle.native.specs.Request.{worked, leafOut, builderOut}
+use Rattle.native.specs.Perform.{worked, leafOut, builderOut}
 use mathlib.Core.Path.{ap}
 use borrow.Author.Needs.{needs}
 use Rattle.native.proofs.perform.work.Statement.{statement}

@@ -1,0 +1,4 @@
+pub mod Little
+pub mod Parts
+pub mod Steps
+pub mod Within

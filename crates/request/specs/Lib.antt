@@ -1,0 +1,3 @@
+pub mod Typing
+pub mod Request
+pub mod Codes

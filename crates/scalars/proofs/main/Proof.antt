@@ -1,0 +1,34 @@
+-- `scalars::main` meets its contract: a region of zeros is the empty graph. Assumes nothing.
+use Rattle.meaning.proofs.Program.{empty-grown}
+use borrow.Author.Needs.{needs}
+use Rattle.scalars.proofs.main.Statement.{statement}
+use Rattle.scalars.proofs.main.Tie as tie
+
+slice-aggregate-run : tie.Need-slice-aggregate-run
+slice-aggregate-run c = search needs
+
+slice-aggregate-run-2 : tie.Need-slice-aggregate-run-2
+slice-aggregate-run-2 c = search needs
+
+slice-aggregate-run-3 : tie.Need-slice-aggregate-run-3
+slice-aggregate-run-3 c = search needs
+
+slice-aggregate-run-4 : tie.Need-slice-aggregate-run-4
+slice-aggregate-run-4 c = search needs
+
+run-requires : tie.Need-run-requires
+run-requires c κs = empty-grown
+
+returns : tie.Need-returns
+returns c = search needs
+
+pub main-spec : {M : Type 1} → statement M
+main-spec =
+    tie.close
+    (tie.spec
+    slice-aggregate-run
+    slice-aggregate-run-2
+    slice-aggregate-run-3
+    slice-aggregate-run-4
+    run-requires
+    returns)
