@@ -31,8 +31,8 @@ use Rattle.bitfield.specs.declared.MaybeField.the-variants as fields
 use Rattle.bitfield.specs.declared.Update as declared-update
 use Rattle.bitfield.specs.declared.MaybeUpdate as declared-updates
 use Rattle.bitfield.specs.declared.MaybeUpdate.the-variants as updates
-use Rattle.bitfield.specs.declared.Look as declared-look
-use Rattle.bitfield.specs.declared.Look.the-variants as looks
+use Rattle.bitfield.specs.declared.PairFold as declared-pair
+use Rattle.bitfield.specs.declared.PairFold.the-variants as pairs
 use Rattle.bitfield.specs.declared.MaybeMasked as declared-masked
 use Rattle.bitfield.specs.declared.MaybeMasked.the-variants as maybe-masked
 
@@ -189,10 +189,10 @@ unfoldable pub updateAt : List ℕ → ℕ → Option Update
 updateAt g n = updateOf g n (operationAt g n)
 
 -- one pair of base and update: the other pair is next, the fold ends, or it is found
-pub data Look : Type 0 where
-  next : Look
-  end : Look
-  found : Mask → Look
+pub data PairFold : Type 0 where
+  next : PairFold
+  end : PairFold
+  found : Mask → PairFold
 
 -- is it base And keep, with no bit both kept and set?
 abbrev pub keeps : ℕ → ℕ → ℕ → ByConstant → Bool
@@ -204,36 +204,36 @@ changedBits o base w v c =
     record { type = ty.Bits w; base = base; mask = bitAnd (u128.not (c .value)) (mask w); result = ty.Bool; op = o; literal = v }
 
 -- an update of a base of width w
-abbrev pub lookUpdate : List ℕ → Binary → ℕ → ℕ → Update → Look
-lookUpdate g o base w u =
+abbrev pub foldUpdate : List ℕ → Binary → ℕ → ℕ → Update → PairFold
+foldUpdate g o base w u =
     given (byConstantAt g (u .preserved)) (λ c. cond (keeps base w (u .literal) c) (found (changedBits o base w (u .literal) c)) next) next
 
 -- a base of this type
-abbrev pub lookTyped : List ℕ → Binary → ℕ → ℕ → ScalarType → Look
-lookTyped g o base updated ty.Bool = next
-lookTyped g o base updated (ty.Bits w) =
-    cond (sameType (typeAt g updated) (ty.Bits w)) (given (updateAt g updated) (λ u. lookUpdate g o base w u) end) next
-lookTyped g o base updated ty.Integer = next
+abbrev pub foldTyped : List ℕ → Binary → ℕ → ℕ → ScalarType → PairFold
+foldTyped g o base updated ty.Bool = next
+foldTyped g o base updated (ty.Bits w) =
+    cond (sameType (typeAt g updated) (ty.Bits w)) (given (updateAt g updated) (λ u. foldUpdate g o base w u) end) next
+foldTyped g o base updated ty.Integer = next
 
 -- one pair
-unfoldable pub lookAt : List ℕ → Binary → ℕ → ℕ → Look
-lookAt g o base updated = lookTyped g o base updated (typeAt g base)
+unfoldable pub foldPair : List ℕ → Binary → ℕ → ℕ → PairFold
+foldPair g o base updated = foldTyped g o base updated (typeAt g base)
 
 -- the mask that was found, if any
-abbrev pub foundIn : Look → Option Mask
+abbrev pub foundIn : PairFold → Option Mask
 foundIn next = none
 foundIn end = none
 foundIn (found m) = some m
 
 -- the first pair, or where it says so the second
-abbrev pub firstFound : Look → Look → Option Mask
+abbrev pub firstFound : PairFold → PairFold → Option Mask
 firstFound next l = foundIn l
 firstFound end l = none
 firstFound (found m) l = some m
 
 -- the masked comparison of two nodes, either being the base
 unfoldable pub foldMaskedComparison : List ℕ → Binary → ℕ → ℕ → Option Mask
-foldMaskedComparison g o left right = firstFound (lookAt g o left right) (lookAt g o right left)
+foldMaskedComparison g o left right = firstFound (foldPair g o left right) (foldPair g o right left)
 
 -- ---- what the code's answers stand for
 
@@ -275,11 +275,11 @@ abbrev pub maybeUpdateOf : declared-updates.MaybeUpdate → Option Update
 maybeUpdateOf (updates.Some u) = some (oneUpdateOf u)
 maybeUpdateOf updates.None = none
 
--- a Look
-abbrev pub lookOf : declared-look.Look → Look
-lookOf looks.Next = next
-lookOf looks.End = end
-lookOf (looks.Found m) = found (maskOf m)
+-- a PairFold
+abbrev pub pairFoldOf : declared-pair.PairFold → PairFold
+pairFoldOf pairs.Next = next
+pairFoldOf pairs.End = end
+pairFoldOf (pairs.Found m) = found (maskOf m)
 
 -- a MaybeMasked
 abbrev pub maybeMaskOf : declared-masked.MaybeMasked → Option Mask

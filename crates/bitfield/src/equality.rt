@@ -8,11 +8,11 @@ ghost use Rattle.range.specs.declared.ScalarType.the-variants as ty;
 ghost use Rattle.graph.specs.Node as node;
 ghost use Rattle.fold.specs.Shape.{oneByConstantOf};
 ghost use Rattle.bitfield.specs.Bitfield.{maskOf};
-ghost use Rattle.bitfield.specs.Bitfield.{maybeUpdateOf, oneUpdateOf, updateOf, updateAt, lookOf, keeps, changedBits, lookUpdate, lookTyped, lookAt, foundIn, maybeMaskOf, foldMaskedComparison};
-use crate::Look;
+ghost use Rattle.bitfield.specs.Bitfield.{maybeUpdateOf, oneUpdateOf, updateOf, updateAt, pairFoldOf, keeps, changedBits, foldUpdate, foldTyped, foldPair, foundIn, maybeMaskOf, foldMaskedComparison};
 use crate::Masked;
 use crate::MaybeMasked;
 use crate::MaybeUpdate;
+use crate::PairFold;
 use crate::Update;
 use evaluate::Binary;
 use fold::ByConstant;
@@ -114,56 +114,56 @@ fn changed_bits(op: Binary, base: NodeId, width: u16, value: Word, shape: ByCons
     }
 }
 
-fn look_update(g: &[u64], op: Binary, base: NodeId, width: u16, update: Update) -> Look
+fn fold_update(g: &[u64], op: Binary, base: NodeId, width: u16, update: Update) -> PairFold
     requires { ⌜ length (now g) ≡ REGION ⌝ }
-    ensures { λ r. ⌜ lookOf r ≡ lookUpdate (now (g .entry)) op (base .0) width (oneUpdateOf update) ⌝ }
+    ensures { λ r. ⌜ pairFoldOf r ≡ foldUpdate (now (g .entry)) op (base .0) width (oneUpdateOf update) ⌝ }
 {
     let literal = update.literal;
     let preserved = by_constant_at(g, update.preserved);
     let MaybeByConstant::Some(shape) = preserved else {
-        return Look::Next;
+        return PairFold::Next;
     };
     if keeps(base, width, literal, shape) {
-        Look::Found(changed_bits(op, base, width, literal, shape))
+        PairFold::Found(changed_bits(op, base, width, literal, shape))
     } else {
-        Look::Next
+        PairFold::Next
     }
 }
 
-fn look_at_bits(g: &[u64], op: Binary, base: NodeId, updated: NodeId, width: u16) -> Look
+fn fold_pair_of_bits(g: &[u64], op: Binary, base: NodeId, updated: NodeId, width: u16) -> PairFold
     requires { ⌜ length (now g) ≡ REGION ⌝ }
-    ensures { λ r. ⌜ lookOf r ≡ lookTyped (now (g .entry)) op (base .0) (updated .0) (ty.Bits width) ⌝ }
+    ensures { λ r. ⌜ pairFoldOf r ≡ foldTyped (now (g .entry)) op (base .0) (updated .0) (ty.Bits width) ⌝ }
 {
     if !same_type(type_at(g, updated), ScalarType::Bits(width)) {
-        return Look::Next;
+        return PairFold::Next;
     }
     let found = update_at(g, updated);
     match found {
-        MaybeUpdate::Some(update) => look_update(g, op, base, width, update),
-        MaybeUpdate::None => Look::End,
+        MaybeUpdate::Some(update) => fold_update(g, op, base, width, update),
+        MaybeUpdate::None => PairFold::End,
     }
 }
 
 // One pair of base and update.
-fn look_at(g: &[u64], op: Binary, base: NodeId, updated: NodeId) -> Look
+fn fold_pair(g: &[u64], op: Binary, base: NodeId, updated: NodeId) -> PairFold
     requires { ⌜ length (now g) ≡ REGION ⌝ }
-    ensures { λ r. ⌜ lookOf r ≡ lookAt (now (g .entry)) op (base .0) (updated .0) ⌝ }
+    ensures { λ r. ⌜ pairFoldOf r ≡ foldPair (now (g .entry)) op (base .0) (updated .0) ⌝ }
 {
     let ty = type_at(g, base);
     match ty {
-        ScalarType::Bool => Look::Next,
-        ScalarType::Bits(width) => look_at_bits(g, op, base, updated, width),
-        ScalarType::Integer => Look::Next,
+        ScalarType::Bool => PairFold::Next,
+        ScalarType::Bits(width) => fold_pair_of_bits(g, op, base, updated, width),
+        ScalarType::Integer => PairFold::Next,
     }
 }
 
-fn found_in(look: Look) -> MaybeMasked
-    ensures { λ r. ⌜ maybeMaskOf r ≡ foundIn (lookOf look) ⌝ }
+fn found_in(pair: PairFold) -> MaybeMasked
+    ensures { λ r. ⌜ maybeMaskOf r ≡ foundIn (pairFoldOf pair) ⌝ }
 {
-    match look {
-        Look::Next => MaybeMasked::None,
-        Look::End => MaybeMasked::None,
-        Look::Found(masked) => MaybeMasked::Some(masked),
+    match pair {
+        PairFold::Next => MaybeMasked::None,
+        PairFold::End => MaybeMasked::None,
+        PairFold::Found(masked) => MaybeMasked::Some(masked),
     }
 }
 
@@ -172,10 +172,10 @@ pub fn fold_masked_comparison(g: &[u64], op: Binary, left: NodeId, right: NodeId
     requires { ⌜ length (now g) ≡ REGION ⌝ }
     ensures { λ r. ⌜ maybeMaskOf r ≡ foldMaskedComparison (now (g .entry)) op (left .0) (right .0) ⌝ }
 {
-    let look = look_at(g, op, left, right);
-    match look {
-        Look::Next => found_in(look_at(g, op, right, left)),
-        Look::End => MaybeMasked::None,
-        Look::Found(masked) => MaybeMasked::Some(masked),
+    let pair = fold_pair(g, op, left, right);
+    match pair {
+        PairFold::Next => found_in(fold_pair(g, op, right, left)),
+        PairFold::End => MaybeMasked::None,
+        PairFold::Found(masked) => MaybeMasked::Some(masked),
     }
 }

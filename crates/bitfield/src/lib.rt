@@ -66,7 +66,7 @@ pub enum MaybeUpdate {
 }
 
 // One pair of base and update: the other pair is next, the fold ends, or it is found.
-pub enum Look {
+pub enum PairFold {
     Next,
     End,
     Found(Masked),

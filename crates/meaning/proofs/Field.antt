@@ -27,7 +27,7 @@ use Rattle.graph.specs.Node as node
 use Rattle.graph.specs.Node.{Op, typeAt, operationAt}
 use Rattle.graph.specs.Insert.{start, literalOf, literal}
 use Rattle.fold.specs.Shape.{sameType, sameBinary, mask, ByConstant, withConstant, byConstantOf, byConstantAt}
-use Rattle.bitfield.specs.Bitfield.{Bit, known, source, BitStep, here, from, flipped, hasBit, above, maskedBit, unaryBit, bitOf, bitStep, negatedBit, reached, DEPTH, bitAt, Field, noBits, power, sameBase, withBit, concatBit, fieldFrom, lowFits, foldBitfieldConcat, Mask, Update, updateOf, updateAt, Look, next, end, found, keeps, changedBits, lookTyped, lookAt, firstFound, foldMaskedComparison}
+use Rattle.bitfield.specs.Bitfield.{Bit, known, source, BitStep, here, from, flipped, hasBit, above, maskedBit, unaryBit, bitOf, bitStep, negatedBit, reached, DEPTH, bitAt, Field, noBits, power, sameBase, withBit, concatBit, fieldFrom, lowFits, foldBitfieldConcat, Mask, Update, updateOf, updateAt, PairFold, next, end, found, keeps, changedBits, foldTyped, foldPair, firstFound, foldMaskedComparison}
 use Rattle.request.specs.Typing.{concatTyped}
 use Rattle.range.proofs.Sound.{tests}
 use Rattle.range.proofs.Answers.{none-some, some-is, provided-is}
@@ -714,8 +714,8 @@ end-found e = let z : _≡_ {A = ℕ} 0 1 = cc in omega arith
 found-is : {a b : Mask} → found a ≡ found b → a ≡ b
 found-is e = cc
 
--- how a look at a base and an updated node found a mask
-pub record Looked (g : List ℕ) (o : Binary) (base updated : ℕ) (m : Mask) : Type 0 where
+-- how a base and an updated node gave a mask
+pub record Folded (g : List ℕ) (o : Binary) (base updated : ℕ) (m : Mask) : Type 0 where
   pub width : ℕ
   pub update : Update
   pub shape : ByConstant
@@ -727,14 +727,14 @@ pub record Looked (g : List ℕ) (o : Binary) (base updated : ℕ) (m : Mask) : 
   pub is : changedBits o base width (update .literal) shape ≡ m
 
 module _ (g : List ℕ) (o : Binary) where
-  pub looked : (base updated : ℕ) (m : Mask) → lookAt g o base updated ≡ found m → Looked g o base updated m
-  unfolding lookAt
-  looked base updated m = go (typeAt g base) refl
+  pub folded : (base updated : ℕ) (m : Mask) → foldPair g o base updated ≡ found m → Folded g o base updated m
+  unfolding foldPair
+  folded base updated m = go (typeAt g base) refl
     where
-      Finds : Look → Type 0
-      Finds k = k ≡ found m → Looked g o base updated m
+      Finds : PairFold → Type 0
+      Finds k = k ≡ found m → Folded g o base updated m
 
-      go : (t : ScalarType) → typeAt g base ≡ t → Finds (lookTyped g o base updated t)
+      go : (t : ScalarType) → typeAt g base ≡ t → Finds (foldTyped g o base updated t)
       go ty.Bool tb = λ e. absurd (next-found e)
       go ty.Integer tb = λ e. absurd (next-found e)
       go (ty.Bits w) tb =
@@ -763,11 +763,11 @@ module _ (g : List ℕ) (o : Binary) where
           (λ n e. absurd (next-found e))
 
   -- either node being the base
-  pub first-looked : (left right : ℕ) (m : Mask) → foldMaskedComparison g o left right ≡ some m → (lookAt g o left right ≡ found m) ⊎ (lookAt g o right left ≡ found m)
+  pub first-folded : (left right : ℕ) (m : Mask) → foldMaskedComparison g o left right ≡ some m → (foldPair g o left right ≡ found m) ⊎ (foldPair g o right left ≡ found m)
   unfolding foldMaskedComparison
-  first-looked left right m = go (lookAt g o left right) (lookAt g o right left)
+  first-folded left right m = go (foldPair g o left right) (foldPair g o right left)
     where
-      go : (a b : Look) → firstFound a b ≡ some m → (a ≡ found m) ⊎ (b ≡ found m)
+      go : (a b : PairFold) → firstFound a b ≡ some m → (a ≡ found m) ⊎ (b ≡ found m)
       go next next e = absurd (none-some e)
       go next end e = absurd (none-some e)
       go next (found h) e = inr (ap found (some-is e))
@@ -805,12 +805,12 @@ module _ (ρ : World) (g : List ℕ) (inv : Inv ρ g) (o : Binary) where
               ∙ ap (λ (h : ℕ). eqb (bitAnd x h) (u .literal)) (sym m);
         }
 
-    look-says : (m : Mask) → lookAt g o base updated ≡ found m → MaskSays ρ g o x y m
-    look-says m e =
-        let s = looked g o base updated m e in
+    fold-says : (m : Mask) → foldPair g o base updated ≡ found m → MaskSays ρ g o x y m
+    fold-says m e =
+        let s = folded g o base updated m e in
         subst (MaskSays ρ g o x y) (s .is) (changed-says (s .width) (s .update) (s .shape) (s .typed) (s .also) (s .updates) (s .shaped) (s .kept))
 
   pub masked-sound : (left right x y : ℕ) → left < countOf g → right < countOf g → value ρ g left ≡ some x → value ρ g right ≡ some y → (m : Mask)
       → foldMaskedComparison g o left right ≡ some m → MaskSays ρ g o x y m
   masked-sound left right x y ll lr ex ey m e =
-      ⊎-elim (look-says left right x y ll lr ex ey m) (λ q. mask-swap ρ g o x y m (look-says right left y x lr ll ey ex m q)) (first-looked g o left right m e)
+      ⊎-elim (fold-says left right x y ll lr ex ey m) (λ q. mask-swap ρ g o x y m (fold-says right left y x lr ll ey ex m q)) (first-folded g o left right m e)

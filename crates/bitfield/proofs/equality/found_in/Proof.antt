@@ -8,8 +8,8 @@ enum-told c = search needs
 enum-told-2 : tie.Need-enum-told-2
 enum-told-2 c = search needs
 
-enum-known-look : tie.Need-enum-known-look
-enum-known-look c = search needs
+enum-known-pair : tie.Need-enum-known-pair
+enum-known-pair c = search needs
 
 returns : tie.Need-returns
 returns c = search needs
@@ -18,8 +18,8 @@ returns-2 : tie.Need-returns-2
 returns-2 c = search needs
 
 returns-3 : tie.Need-returns-3
-returns-3 c = simp (c .before .look .given .1)
+returns-3 c = simp (c .before .pair .given .1)
 
 pub found-in-spec : {M : Type 1} → statement M
 found-in-spec =
-    tie.close (tie.spec enum-told enum-told-2 enum-known-look returns returns-2 returns-3)
+    tie.close (tie.spec enum-told enum-told-2 enum-known-pair returns returns-2 returns-3)

@@ -1,6 +1,6 @@
 use borrow.Author.Needs.{needs}
-use Rattle.bitfield.proofs.equality.look_update.Statement.{statement}
-use Rattle.bitfield.proofs.equality.look_update.Tie as tie
+use Rattle.bitfield.proofs.equality.fold_update.Statement.{statement}
+use Rattle.bitfield.proofs.equality.fold_update.Tie as tie
 
 by-constant-at-requires : tie.Need-by-constant-at-requires
 by-constant-at-requires c κs = search needs
@@ -26,8 +26,8 @@ returns-2 c = simp (← c .before .before .before .before .before .before .by-co
 returns-3 : tie.Need-returns-3
 returns-3 c = simp (← c .before .before .before .before .before .by-constant-at .ensures, c .before .before .before .preserved .given .1, ← c .before .keeps .ensures, c .if1 .left)
 
-pub look-update-spec : {M : Type 1} → statement M
-look-update-spec =
+pub fold-update-spec : {M : Type 1} → statement M
+fold-update-spec =
     tie.close
     (tie.spec
     by-constant-at-requires

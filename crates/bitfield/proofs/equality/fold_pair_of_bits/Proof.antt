@@ -1,7 +1,7 @@
 use borrow.Author.Tests.{not-true, not-false}
 use borrow.Author.Needs.{needs}
-use Rattle.bitfield.proofs.equality.look_at_bits.Statement.{statement}
-use Rattle.bitfield.proofs.equality.look_at_bits.Tie as tie
+use Rattle.bitfield.proofs.equality.fold_pair_of_bits.Statement.{statement}
+use Rattle.bitfield.proofs.equality.fold_pair_of_bits.Tie as tie
 
 type-at-requires : tie.Need-type-at-requires
 type-at-requires c κs = search needs
@@ -18,8 +18,8 @@ update-at-requires c κs = search needs
 enum-known-found : tie.Need-enum-known-found
 enum-known-found c = search needs
 
-look-update-requires : tie.Need-look-update-requires
-look-update-requires c κs = search needs
+fold-update-requires : tie.Need-fold-update-requires
+fold-update-requires c κs = search needs
 
 enum-told : tie.Need-enum-told
 enum-told c = search needs
@@ -27,13 +27,13 @@ enum-told c = search needs
 returns-2 : tie.Need-returns-2
 returns-2 c =
     rw (← c .before .before .before .before .before .before .before .type-at .ensures, ← c .before .before .before .before .before .before .same-type .ensures, not-false (c .before .before .before .before .before .before .same-type .result) (c .before .before .before .before .before .if1 .left), ← c .before .before .before .before .update-at .ensures, c .before .before .found .given .1)
-    (c .look-update .ensures)
+    (c .fold-update .ensures)
 
 returns-3 : tie.Need-returns-3
 returns-3 c = rw (← c .before .before .before .before .before .type-at .ensures, ← c .before .before .before .before .same-type .ensures, not-false (c .before .before .before .before .same-type .result) (c .before .before .before .if1 .left), ← c .before .before .update-at .ensures, c .enum-told .given .1)
 
-pub look-at-bits-spec : {M : Type 1} → statement M
-look-at-bits-spec =
+pub fold-pair-of-bits-spec : {M : Type 1} → statement M
+fold-pair-of-bits-spec =
     tie.close
     (tie.spec
     type-at-requires
@@ -41,7 +41,7 @@ look-at-bits-spec =
     returns
     update-at-requires
     enum-known-found
-    look-update-requires
+    fold-update-requires
     enum-told
     returns-2
     returns-3)
