@@ -12,7 +12,7 @@ import sys
 
 CRATES = pathlib.Path(__file__).resolve().parents[2] / "crates"
 WORD = re.compile(r"[^\s(){},.;]+(?:\.[^\s(){},.;]+)*|\.[^\s(){},.;]+")
-ITEM = re.compile(r"^(?:abbrev |unfoldable )*(?:pub )?(data |record )?(\S+)(?: \([^)]*\))* :")
+ITEM = re.compile(r"^(?:abbrev |unfoldable )*(?:pub )?(data |record )?(\S+)(?: \((?:[^()]|\([^()]*\))*\))* :")
 
 
 def read(crate, file):

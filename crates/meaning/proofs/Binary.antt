@@ -24,7 +24,7 @@ use Rattle.graph.specs.Layout.{countOf}
 use Rattle.graph.specs.Node as node
 use Rattle.graph.specs.Node.{typeAt, rangeAt}
 use Rattle.graph.specs.Insert.{literal}
-use Rattle.bitfield.specs.Bitfield.{Mask, found, lookAt, foldMaskedComparison}
+use Rattle.bitfield.specs.Bitfield.{Mask, found, foldPair, foldMaskedComparison}
 use Rattle.fold.specs.Operator.{equalities}
 use Rattle.fold.specs.Range.{binaryRange, rangedAt}
 use Rattle.fold.specs.Shape.{sameType, isAny}
@@ -40,7 +40,7 @@ use Rattle.meaning.proofs.Invariant.{storedTyped, Inv, inv-width, inv-v
 use Rattle.meaning.proofs.Compared.{mask-value}
 use Rattle.meaning.proofs.Answers.{by-test, by-given, each-provided, each-given, each-or, of-any}
 use Rattle.meaning.proofs.Constants.{reduced-same, stored-low, stored-high}
-use Rattle.meaning.proofs.Field.{literal-value, operands, masked-sound, looked, first-looked}
+use Rattle.meaning.proofs.Field.{literal-value, operands, masked-sound, folded, first-folded}
 use Rattle.meaning.proofs.Offsets.{swapped-claim, sum-claim, offset-claim, equality-value}
 use Rattle.meaning.proofs.Plans.{Covers, Claim, Masking, FirstClaim, bits-number}
 use Rattle.meaning.proofs.Ranges.{stored-within, held-at}
@@ -140,13 +140,13 @@ record MaskFacts (g : List ℕ) (o : Binary) (m : Mask) : Type 0 where
   op : m .op ≡ o
 
 module _ (g : List ℕ) (o : Binary) where
-  look-facts : (base updated : ℕ) → base < countOf g → (m : Mask) → lookAt g o base updated ≡ found m → MaskFacts g o m
-  look-facts base updated l m e =
-      let s = looked g o base updated m e in
+  pair-facts : (base updated : ℕ) → base < countOf g → (m : Mask) → foldPair g o base updated ≡ found m → MaskFacts g o m
+  pair-facts base updated l m e =
+      let s = folded g o base updated m e in
       subst (MaskFacts g o) (s .is) (record { width = s .width; type = refl; here = l; typed = s .typed; result = refl; op = refl })
 
   mask-facts : (l r : ℕ) → l < countOf g → r < countOf g → (m : Mask) → foldMaskedComparison g o l r ≡ some m → MaskFacts g o m
-  mask-facts l r ll lr m e = ⊎-elim (look-facts l r ll m) (look-facts r l lr m) (first-looked g o l r m e)
+  mask-facts l r ll lr m e = ⊎-elim (pair-facts l r ll m) (pair-facts r l lr m) (first-folded g o l r m e)
 
 -- ---- its nodes, of Equal and NotEqual
 

@@ -135,7 +135,7 @@ fn read_some(input: &mut [u8]) -> usize
     io::count(got, input)
 }
 
-pub fn turn(
+pub(crate) fn turn(
     g: &mut [u64],
     mapping: &mut [u64],
     input: &mut [u8],
@@ -180,7 +180,7 @@ fn end_inside(g: &mut [u64], mapping: &mut [u64], rest: &[u8], out: &mut [u8]) -
 }
 
 // The last lines: that of a record cut off, and the number of nodes.
-pub fn finish(g: &mut [u64], mapping: &mut [u64], rest: &[u8], out: &mut [u8])
+pub(crate) fn finish(g: &mut [u64], mapping: &mut [u64], rest: &[u8], out: &mut [u8])
     requires { ⌜ Grown (now g) ⌝ }
 {
     let at = end_inside(g, mapping, rest, out);
