@@ -1,1 +1,3 @@
 pub mod Bitfield
+pub mod Early
+pub mod Turns

@@ -8,9 +8,11 @@ ghost use Rattle.word.specs.Option.{given};
 ghost use Rattle.graph.specs.Layout.{REGION};
 ghost use Rattle.graph.specs.Node.{opOf};
 ghost use Rattle.bitfield.specs.Bitfield.{stepOf, maybeBitOf, hasBit, above, maskedBit, unaryBit, bitOf, bitStep, bitAt, negatedBit, here, from, flipped, known, source};
+ghost use Rattle.bitfield.specs.Turns.{onceMore, turnedBy};
 use crate::Bit;
 use crate::BitStep;
 use crate::MaybeBit;
+use crate::Turns;
 use evaluate::Binary;
 use evaluate::Unary;
 use fold::operator::same_binary;
@@ -190,18 +192,54 @@ fn negated_bit(bit: MaybeBit) -> MaybeBit
     }
 }
 
+// One turn more.
+fn once_more(turns: Turns) -> Turns
+    ensures { λ r. ⌜ r ≡ onceMore turns ⌝ }
+{
+    match turns {
+        Turns::Never => Turns::Odd,
+        Turns::Odd => Turns::Even,
+        Turns::Even => Turns::Odd,
+    }
+}
+
+// A bit after these turns.
+fn turned_by(turns: Turns, bit: MaybeBit) -> MaybeBit
+    ensures { λ r. ⌜ maybeBitOf r ≡ turnedBy turns (maybeBitOf bit) ⌝ }
+{
+    match turns {
+        Turns::Never => bit,
+        Turns::Odd => negated_bit(bit),
+        Turns::Even => negated_bit(negated_bit(bit)),
+    }
+}
+
 // A bit of a node, by at most `left` steps.
 pub fn bit(g: &[u64], id: NodeId, index: u64, left: u64) -> MaybeBit
     requires { ⌜ length (now g) ≡ REGION ⌝ }
     ensures { λ r. ⌜ maybeBitOf r ≡ bitAt (now (g .entry)) left (id .0) index ⌝ }
 {
-    if left == 0 {
-        return MaybeBit::None;
+    let mut node = id.0;
+    let mut place = index;
+    let mut steps = left;
+    let mut turns = Turns::Never;
+    while 0 < steps {
+        let step = bit_step(g, NodeId(node), place);
+        steps -= 1;
+        match step {
+            BitStep::Here(found) => {
+                return turned_by(turns, MaybeBit::Some(found));
+            }
+            BitStep::From(source, at) => {
+                node = source.0;
+                place = at;
+            }
+            BitStep::Flipped(source, at) => {
+                node = source.0;
+                place = at;
+                turns = once_more(turns);
+            }
+        }
     }
-    let step = bit_step(g, id, index);
-    match step {
-        BitStep::Here(found) => MaybeBit::Some(found),
-        BitStep::From(source, at) => bit(g, source, at, left - 1),
-        BitStep::Flipped(source, at) => negated_bit(bit(g, source, at, left - 1)),
-    }
+    MaybeBit::None
 }

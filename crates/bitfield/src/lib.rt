@@ -42,6 +42,13 @@ pub enum BitStep {
     Flipped(NodeId, u64),
 }
 
+// How often a bit was turned over on the way.
+pub enum Turns {
+    Never,
+    Odd,
+    Even,
+}
+
 // The bits of a concat so far: the node that some come from, the mask of those, and the ones among the others.
 pub struct Field {
     pub base: MaybeId,

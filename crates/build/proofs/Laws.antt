@@ -1,6 +1,7 @@
 -- Laws of programs, each proved once whatever the builders do: units fall, fuel does not matter, and what follows an answer.
-use Prim.Native.Nat.{ℕ, zero, suc, _-_, _≤_, zero-le}
+use Prim.Native.Nat.{ℕ, zero, suc, _-_, _<_, _≤_, zero-le}
 use mathlib.Core.Path.{_≡_, refl, sym, ap, _∙_}
+use mathlib.Core.Bool.{Bool, true, false, true≢false}
 use mathlib.Core.List.{List, [], _∷_}
 use mathlib.Core.Logic.{⊎-elim}
 use types.Run.{OneOf}
@@ -8,6 +9,7 @@ use denote.Enum.Declared.{tagOf}
 use native.Mathlib.Nat.{le-refl, le-trans}
 use native.Mathlib.Numerals.{sub-one}
 use native.Mathlib.Omega.{arith}
+use Rattle.word.specs.Value.{val}
 use Rattle.range.specs.declared.ScalarType.{ScalarType}
 use Rattle.range.specs.declared.ScalarType.the-variants as ty
 use Rattle.evaluate.specs.declared.Binary.the-variants as bi
@@ -18,13 +20,9 @@ use Rattle.graph.specs.Insert.{Reply, id, nothing, room, units, builtOf, insert
 use Rattle.graph.specs.declared.Built.{Built}
 use Rattle.graph.specs.declared.Built.the-variants as built
 use Rattle.graph.proofs.Built.{the-type}
-use Rattle.bitfield.specs.Bitfield.{Mask}
-use Rattle.plan.specs.Plan.{attemptOf}
-use Rattle.plan.specs.declared.Attempt.{Attempt}
-use Rattle.plan.specs.declared.Rest.{Rest}
-use Rattle.plan.specs.declared.First.{First}
-use Rattle.plan.specs.declared.First.the-variants as first
-use Rattle.build.specs.Build.{Call, binary, maskProg, attemptProg, rangeProg, byConstant, Out, out, Prog, give, add, call, tries, tail, answer, constantThen, onId, onOut, onNothing, onNone, exec, run, build, step}
+use Rattle.build.specs.declared.step.MaskedNode.{MaskedNode}
+use Rattle.build.specs.Step.{maskedProg}
+use Rattle.build.specs.Build.{Call, binary, rangeProg, byConstant, Out, out, Prog, give, add, call, tries, tail, answer, constantThen, onId, onOut, onNothing, onNone, exec, run, build, step}
 
 -- the units of an answer
 abbrev pub left : Out → ℕ
@@ -143,14 +141,27 @@ build-falls c u g = run-falls u c u g
 pub units-fall : (c : Call) (u : ℕ) (g : List ℕ) {a : Reply} {v : ℕ} {h : List ℕ} → out a v h ≡ build c u g → v ≤ u
 units-fall c u g e = rw (← ap left e) at (build-falls c u g)
 
--- the same of a program
-pub exec-units : (p : Prog) (u : ℕ) (g : List ℕ) {a : Reply} {v : ℕ} {h : List ℕ} → out a v h ≡ exec build p u g → v ≤ u
-exec-units p u g e = rw (← ap left e) at (exec-falls build build-falls p u g)
+-- is it None?
+abbrev isNone : Reply → Bool
+isNone (id n) = false
+isNone nothing = true
+isNone room = false
+isNone units = false
 
--- the same of a fold that is tried
-pub attempt-units : {f : First} (a : Attempt) (r : Rest) → f ≡ first.Try a r → (u : ℕ) (g : List ℕ) {b : Reply} {v : ℕ} {h : List ℕ} →
-    out b v h ≡ exec build (attemptProg (attemptOf a)) u g → v ≤ u
-attempt-units a r e u g p = exec-units (attemptProg (attemptOf a)) u g p
+-- a builder that is called and comes to None has spent a unit, whatever follows its id
+none-falls-then : (c : Call) (k : ℕ → Prog) (u : ℕ) (g : List ℕ) {v : ℕ} {h : List ℕ} → out nothing v h ≡ exec build (call c k) u g → v < u
+none-falls-then c k zero g e =
+    absurd (true≢false (ap (λ (o : Out). isNone (reply o)) (e ∙ ap (λ (o : Out). onOut o (λ n w j. exec build (k n) w j)) (build-none c zero g refl))))
+none-falls-then c k (suc u) g {v} e =
+    let f : left (build c (suc u) g) ≤ u =
+    rw (build-step c (suc u) g (λ q. omega (arith, q)), sub-one) (exec-falls build build-falls (step c g) u g) in
+    let l : v ≤ u = rw (← ap left e) at (onOut-falls (build c (suc u) g) u (λ n w j. exec build (k n) w j) f (λ n w j. exec-falls build build-falls (k n) w j)) in
+    omega (arith, l)
+
+-- a masked operation that comes to None has spent one
+pub masked-falls : (m : MaskedNode) (u : ℕ) (g : List ℕ) {v : ℕ} {h : List ℕ} → out nothing v h ≡ exec build (maskedProg m) u g → v < u
+masked-falls m u g e =
+    none-falls-then (binary (m .ty) bi.And (m .base .0) (m .mask .0)) (λ a. byConstant (m .ty) (val (m .literal)) (m .result) (m .op) a) u g e
 
 -- ---- what follows an answer
 
@@ -164,12 +175,23 @@ onId-tail units u g = refl
 pub onOut-tail : (o : Out) → onOut o (λ n v h. out (id n) v h) ≡ o
 onOut-tail (out a u g) = onId-tail a u g
 
+-- a builder that comes to None has spent a unit
+pub none-falls : (c : Call) (u : ℕ) (g : List ℕ) {v : ℕ} {h : List ℕ} → out nothing v h ≡ build c u g → v < u
+none-falls c u g e = none-falls-then c answer u g (e ∙ sym (onOut-tail (build c u g)))
+
 -- an answer that is no id ends a program: what the `else` of `let Built::Id(..) = .. else` knows
 pub onId-stop : (b : Built) (u : ℕ) (g : List ℕ) (k : ℕ → ℕ → List ℕ → Out) → OneOf (1 ∷ 2 ∷ 3 ∷ []) (tagOf the-type b) → onId (builtOf b) u g k ≡ out (builtOf b) u g
 onId-stop (built.Id n) u g k h = absurd (⊎-elim (λ e. omega arith) (λ q. ⊎-elim (λ e. omega arith) (λ e. omega arith) q) h)
 onId-stop built.None u g k h = refl
 onId-stop built.Room u g k h = refl
 onId-stop built.Units u g k h = refl
+
+-- the same of one that is tried, where an answer that is not None ends it
+pub onNothing-stop : (b : Built) (u : ℕ) (g : List ℕ) (k : ℕ → List ℕ → Out) → OneOf (0 ∷ 2 ∷ 3 ∷ []) (tagOf the-type b) → onNothing (builtOf b) u g k ≡ out (builtOf b) u g
+onNothing-stop (built.Id n) u g k h = refl
+onNothing-stop built.None u g k h = absurd (⊎-elim (λ e. omega arith) (λ q. ⊎-elim (λ e. omega arith) (λ e. omega arith) q) h)
+onNothing-stop built.Room u g k h = refl
+onNothing-stop built.Units u g k h = refl
 
 onOut-twice : (o : Out) (k : ℕ → ℕ → List ℕ → Out) → onOut (onOut o (λ n v h. out (id n) v h)) k ≡ onOut o k
 onOut-twice o k = ap (λ (q : Out). onOut q k) (onOut-tail o)
@@ -187,12 +209,6 @@ constant-call : (f : Call → ℕ → List ℕ → Out) (t : ScalarType) (v : �
 constant-call f t v c k u g =
     onId-bind f (inserted g t (constantInterval t (reduced t v)) (node.constant (reduced t v)) .answer) u
     (inserted g t (constantInterval t (reduced t v)) (node.constant (reduced t v)) .words) c (λ n w h. exec f (k n) w h)
-
--- a masked operation: first the And, then the operation on it and the literal
-pub mask-first : (m : Mask) (u : ℕ) (g : List ℕ) →
-    exec build (maskProg m) u g ≡ onOut (exec build (byConstant (m .type) (m .mask) (m .type) bi.And (m .base)) u g) (λ a w h. exec build (byConstant (m .type) (m .literal) (m .result) (m .op) a) w h)
-mask-first m u g =
-    constant-call build (m .type) (m .mask) (λ k. binary (m .type) bi.And (m .base) k) (λ a. byConstant (m .type) (m .literal) (m .result) (m .op) a) u g
 
 -- unsigned_range: first the difference, then its comparison
 pub range-first : (t : ScalarType) (v low high u : ℕ) (g : List ℕ) →

@@ -2,7 +2,11 @@
 use Prim.Native.Nat.{ℕ, zero, suc, _+_, _-_}
 use mathlib.Core.Path.{_≡_, refl, ap, _∙_}
 use mathlib.Core.Bool.{Bool, true, false, cond, false≢true, _&&_, _||_}
-use mathlib.Core.List.{List}
+use mathlib.Core.List.{List, [], _∷_}
+use mathlib.Core.Logic.{⊎-elim}
+use types.Run.{OneOf}
+use denote.Enum.Declared.{tagOf}
+use native.Mathlib.Omega.{arith}
 use mathlib.Core.Option.{Option, none, some}
 use lib.Dec.{eqb, ltb, leb}
 use Rattle.word.specs.Value.{residue}
@@ -17,7 +21,10 @@ use Rattle.evaluate.specs.Evaluate.{reduced}
 use Rattle.graph.specs.Layout.{LIMIT, countOf}
 use Rattle.graph.specs.Node as node
 use Rattle.graph.specs.Node.{Op, wordsOf, typeAt, rangeAt, operationAt}
-use Rattle.graph.specs.Insert.{Reply, id, nothing, room, units, Made, literal, resolve, interned, appended, foundOr, inserted, constantInterval}
+use Rattle.graph.specs.Insert.{Reply, id, nothing, room, units, Made, literal, builtOf, resolve, interned, appended, foundOr, inserted, constant, constantInterval}
+use Rattle.graph.specs.declared.Built.{Built}
+use Rattle.graph.specs.declared.Built.the-variants as built
+use Rattle.graph.proofs.Built.{the-type}
 use Rattle.fold.specs.Shape.{sameType, fits}
 use Rattle.plan.specs.Plan as plan
 use Rattle.plan.specs.Plan.{Plan}
@@ -44,13 +51,25 @@ appended-some g ws = by (ltb (countOf g) LIMIT) _ _ tt tt
     by false a b p q = q
 
 -- an insertion answers a node or finds no room
-inserted-some : (g : List ℕ) (t : ScalarType) (r : Option Interval) (o : Op) → IsSome (inserted g t r o .answer)
+pub inserted-some : (g : List ℕ) (t : ScalarType) (r : Option Interval) (o : Op) → IsSome (inserted g t r o .answer)
 unfolding inserted
 inserted-some g t r o = by (interned g o (wordsOf t r o))
   where
     by : (x : Option ℕ) → IsSome (foundOr g x (appended g (wordsOf t r o)) .answer)
     by none = appended-some g (wordsOf t r o)
     by (some n) = tt
+
+-- so does a constant
+pub constant-answers : (g : List ℕ) (t : ScalarType) (v : ℕ) → IsSome (constant g t v .answer)
+unfolding constant
+constant-answers g t v = inserted-some g t (constantInterval t (reduced t v)) (node.constant (reduced t v))
+
+-- where no node is answered and not None, a program that is tried ends, and its builder with it
+pub masked-stop : (b : Built) (u : ℕ) (g : List ℕ) (k : ℕ → ℕ → List ℕ → Out) (j : ℕ → List ℕ → Out) → OneOf (1 ∷ 2 ∷ 3 ∷ []) (tagOf the-type b) → IsSome (builtOf b) →
+    onNone (onId (builtOf b) u g k) j ≡ out (builtOf b) u g
+masked-stop (built.Id n) u g k j h s = absurd (⊎-elim (λ e. omega arith) (λ q. ⊎-elim (λ e. omega arith) (λ e. omega arith) q) h)
+masked-stop built.Room u g k j h s = refl
+masked-stop built.Units u g k j h s = refl
 
 onId-some : (a : Reply) (u : ℕ) (g : List ℕ) (k : ℕ → ℕ → List ℕ → Out) → IsSome a → ((n v : ℕ) (h : List ℕ) → IsSome (reply (k n v h))) → IsSome (reply (onId a u g k))
 onId-some (id n) u g k s f = f n u g

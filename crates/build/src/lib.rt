@@ -1,38 +1,27 @@
 // The six builders: unary, modular, binary, slice, concat and identity call each other, and each entry costs a unit.
-// A builder tests its units, decides, and has the plan carried out.
+// A builder tests its units, does by itself what it can, and calls others for what is left: so the frames of the recursion are small.
 pub mod range_test;
-pub mod rest_of_builder;
+pub mod step;
 
 ghost use mathlib.Core.Path.{_≡_};
 ghost use lib.ListN.{length};
 ghost use Rattle.word.specs.Value.{val};
 ghost use Rattle.graph.specs.Layout.{REGION};
 ghost use Rattle.graph.specs.Insert.{builtOf, units};
-ghost use Rattle.bitfield.specs.Bitfield.{maskOf};
-ghost use Rattle.plan.specs.Plan.{planOf, attemptOf, firstOf, restOf};
 ghost use Rattle.plan.specs.Plan as plan;
-ghost use Rattle.build.specs.Rest.{restPlan};
 ghost use Rattle.build.specs.Build as call;
-ghost use Rattle.build.specs.Build.{out, build, exec, byConstant, planProg, maskProg, attemptProg, firstProg, onNothing};
-use crate::rest_of_builder::rest_plan;
-use bitfield::Masked;
+ghost use Rattle.build.specs.Build.{out, build, exec, tries, byConstant, planProg, attemptProg};
+ghost use Rattle.build.specs.Step.{restProg, maskedProg, nextProg};
+use crate::step::MaskedNode;
+use crate::step::Next;
+use crate::step::Start;
+use crate::step::step;
 use evaluate::Binary;
 use evaluate::Unary;
 use graph::Built;
 use graph::NodeId;
-use graph::insert::insert;
 use graph::leaf::constant;
-use graph::read::resolve;
-use plan::Attempt;
-use plan::First;
-use plan::Plan;
 use plan::Rest;
-use plan::one_operand::identity_plan;
-use plan::one_operand::modular_plan;
-use plan::one_operand::unary_first;
-use plan_binary::binary::binary_first;
-use plan_slice::slice::concat_first;
-use plan_slice::slice::slice_first;
 use range::ScalarType;
 use word::Word;
 
@@ -64,11 +53,11 @@ pub fn identity(g: &mut [u64], budget: Budget, ty: ScalarType, value: NodeId) ->
     if budget.units == 0 {
         return spent();
     }
-    let plan = identity_plan(g, ty, value);
+    let next = step(g, Start::Identity(ty, value));
     let rest = Budget {
         units: budget.units - 1,
     };
-    perform(g, rest, plan)
+    perform(g, rest, next)
 }
 
 pub fn unary(g: &mut [u64], budget: Budget, ty: ScalarType, op: Unary, value: NodeId) -> Done
@@ -78,12 +67,11 @@ pub fn unary(g: &mut [u64], budget: Budget, ty: ScalarType, op: Unary, value: No
     if budget.units == 0 {
         return spent();
     }
-    let operand = resolve(g, value);
-    let first = unary_first(g, ty, op, operand);
+    let next = step(g, Start::Unary(ty, value, op));
     let rest = Budget {
         units: budget.units - 1,
     };
-    start(g, rest, first)
+    perform(g, rest, next)
 }
 
 // A truncation pushed through arithmetic.
@@ -94,11 +82,11 @@ pub fn modular(g: &mut [u64], left: Budget, value: NodeId, width: u16) -> Done
     if left.units == 0 {
         return spent();
     }
-    let plan = modular_plan(g, value, width);
+    let next = step(g, Start::Modular(width, value));
     let rest = Budget {
         units: left.units - 1,
     };
-    perform(g, rest, plan)
+    perform(g, rest, next)
 }
 
 pub fn binary(
@@ -115,13 +103,11 @@ pub fn binary(
     if budget.units == 0 {
         return spent();
     }
-    let a = resolve(g, left);
-    let b = resolve(g, right);
-    let first = binary_first(g, ty, op, a, b);
+    let next = step(g, Start::Binary(ty, op, left, right));
     let rest = Budget {
         units: budget.units - 1,
     };
-    start(g, rest, first)
+    perform(g, rest, next)
 }
 
 pub fn slice(g: &mut [u64], budget: Budget, value: NodeId, offset: u64, width: u16) -> Done
@@ -131,12 +117,11 @@ pub fn slice(g: &mut [u64], budget: Budget, value: NodeId, offset: u64, width: u
     if budget.units == 0 {
         return spent();
     }
-    let operand = resolve(g, value);
-    let first = slice_first(g, operand, offset, width);
+    let next = step(g, Start::Slice(width, value, offset));
     let rest = Budget {
         units: budget.units - 1,
     };
-    start(g, rest, first)
+    perform(g, rest, next)
 }
 
 pub fn concat(
@@ -153,95 +138,73 @@ pub fn concat(
     if budget.units == 0 {
         return spent();
     }
-    let a = resolve(g, high);
-    let b = resolve(g, low);
-    let first = concat_first(g, a, b, low_width, width);
+    let next = step(g, Start::Concat(low_width, width, high, low));
     let rest = Budget {
         units: budget.units - 1,
     };
-    start(g, rest, first)
+    perform(g, rest, next)
 }
 
-// What a builder does first, and where it goes on after None.
-fn start(g: &mut [u64], budget: Budget, first: First) -> Done
+// A truncation that is tried; after None the rest of the builder follows.
+fn try_modular(g: &mut [u64], budget: Budget, value: NodeId, width: u16, rest: Rest) -> Done
     requires { ⌜ length (now g) ≡ REGION ⌝ }
-    ensures { λ r. ⌜ out (builtOf (r .built)) (r .budget .units) (now (g .exit)) ≡ exec build (firstProg (firstOf first)) (budget .units) (now (g .entry)) ⌝ }
+    ensures { λ r. ⌜ out (builtOf (r .built)) (r .budget .units) (now (g .exit)) ≡ exec build (tries (attemptProg (plan.modular (value .0) width)) (restProg rest)) (budget .units) (now (g .entry)) ⌝ }
 {
-    match first {
-        First::Do(plan) => perform(g, budget, plan),
-        First::Try(fold, rest) => {
-            let tried = attempt(g, budget, fold);
-            go_on(g, tried, rest)
-        }
-    }
-}
-
-// A fold that may come to None.
-fn attempt(g: &mut [u64], budget: Budget, fold: Attempt) -> Done
-    requires { ⌜ length (now g) ≡ REGION ⌝ }
-    ensures { λ r. ⌜ out (builtOf (r .built)) (r .budget .units) (now (g .exit)) ≡ exec build (attemptProg (attemptOf fold)) (budget .units) (now (g .entry)) ⌝ }
-{
-    match fold {
-        Attempt::Modular(value, width) => modular(g, budget, value, width),
-        Attempt::Masked(masked) => masked_operation(g, budget, masked),
-    }
-}
-
-// After None the rest of the builder follows.
-fn go_on(g: &mut [u64], tried: Done, rest: Rest) -> Done
-    requires { ⌜ length (now g) ≡ REGION ⌝ }
-    ensures { λ r. ⌜ out (builtOf (r .built)) (r .budget .units) (now (g .exit)) ≡ onNothing (builtOf (tried .built)) (tried .budget .units) (now (g .entry)) (λ u h. exec build (planProg (restPlan h (restOf rest))) u h) ⌝ }
-{
+    let tried = modular(g, budget, value, width);
     let built = tried.built;
-    match built {
-        Built::Id(_) => tried,
-        Built::None => {
-            let plan = rest_plan(g, rest);
-            perform(g, tried.budget, plan)
-        }
-        Built::Room => tried,
-        Built::Units => tried,
-    }
+    let Built::None = built else {
+        return tried;
+    };
+    go_on(g, tried.budget, rest)
 }
 
-// Does what a plan says.
-fn perform(g: &mut [u64], budget: Budget, plan: Plan) -> Done
+// An operation on masked bits that is tried; after None the rest of the builder follows.
+fn try_masked(g: &mut [u64], budget: Budget, masked: MaskedNode, rest: Rest) -> Done
     requires { ⌜ length (now g) ≡ REGION ⌝ }
-    ensures { λ r. ⌜ out (builtOf (r .built)) (r .budget .units) (now (g .exit)) ≡ exec build (planProg (planOf plan)) (budget .units) (now (g .entry)) ⌝ }
+    ensures { λ r. ⌜ out (builtOf (r .built)) (r .budget .units) (now (g .exit)) ≡ exec build (tries (maskedProg masked) (restProg rest)) (budget .units) (now (g .entry)) ⌝ }
 {
-    match plan {
-        Plan::Give(id) => Done {
-            built: Built::Id(id),
+    let tried = masked_operation(g, budget, masked);
+    let built = tried.built;
+    let Built::None = built else {
+        return tried;
+    };
+    go_on(g, tried.budget, rest)
+}
+
+// The rest of a builder.
+fn go_on(g: &mut [u64], budget: Budget, rest: Rest) -> Done
+    requires { ⌜ length (now g) ≡ REGION ⌝ }
+    ensures { λ r. ⌜ out (builtOf (r .built)) (r .budget .units) (now (g .exit)) ≡ exec build (restProg rest (now (g .entry))) (budget .units) (now (g .entry)) ⌝ }
+{
+    let next = step(g, Start::Rest(rest));
+    perform(g, budget, next)
+}
+
+// Does what is left of a builder's work.
+fn perform(g: &mut [u64], budget: Budget, next: Next) -> Done
+    requires { ⌜ length (now g) ≡ REGION ⌝ }
+    ensures { λ r. ⌜ out (builtOf (r .built)) (r .budget .units) (now (g .exit)) ≡ exec build (nextProg next) (budget .units) (now (g .entry)) ⌝ }
+{
+    match next {
+        Next::Answer(built) => Done {
+            built: built,
             budget: budget,
         },
-        Plan::None => Done {
-            built: Built::None,
-            budget: budget,
-        },
-        Plan::Constant(ty, value) => Done {
-            built: constant(g, ty, value),
-            budget: budget,
-        },
-        Plan::Add(ty, range, operation) => Done {
-            built: insert(g, ty, range, operation),
-            budget: budget,
-        },
-        Plan::Identity(ty, value) => identity(g, budget, ty, value),
-        Plan::Unary(ty, op, value) => unary(g, budget, ty, op, value),
-        Plan::Binary(ty, op, left, right) => binary(g, budget, ty, op, left, right),
-        Plan::Slice(value, offset, width) => slice(g, budget, value, offset, width),
-        Plan::SliceIdentity(base, offset, width, ty) => {
+        Next::Identity(value, ty) => identity(g, budget, ty, value),
+        Next::Unary(value, ty, op) => unary(g, budget, ty, op, value),
+        Next::Binary(left, right, ty, op) => binary(g, budget, ty, op, left, right),
+        Next::Slice(value, offset, width) => slice(g, budget, value, offset, width),
+        Next::SliceIdentity(base, offset, width, ty) => {
             slice_identity(g, budget, base, offset, width, ty)
         }
-        Plan::SliceShift(base, width, ty, count) => slice_shift(g, budget, base, width, ty, count),
-        Plan::ConstantBinary(kind, value, ty, op, base) => {
-            constant_binary(g, budget, kind, value, ty, op, base)
-        }
-        Plan::AndOr(ty, base, mask, value) => and_or(g, budget, ty, base, mask, value),
-        Plan::Truncated(width, op, left, right) => truncated(g, budget, width, op, left, right),
-        Plan::SplitConcat(low, offset, low_width, high, high_width, width) => {
+        Next::SliceShift(base, count, width, ty) => slice_shift(g, budget, base, width, ty, count),
+        Next::AndOr(base, mask, value, ty) => and_or(g, budget, ty, base, mask, value),
+        Next::Truncated(left, right, width, op) => truncated(g, budget, width, op, left, right),
+        Next::SplitConcat(low, high, offset, low_width, high_width, width) => {
             split_concat(g, budget, low, offset, low_width, high, high_width, width)
         }
+        Next::Modular(value, width, rest) => try_modular(g, budget, value, width, rest),
+        Next::Masked(masked, rest) => try_masked(g, budget, masked, rest),
     }
 }
 
@@ -378,17 +341,18 @@ fn split_concat(
 }
 
 // And of the base and the mask, then the operation on that and the literal.
-fn masked_operation(g: &mut [u64], budget: Budget, masked: Masked) -> Done
+fn masked_operation(g: &mut [u64], budget: Budget, masked: MaskedNode) -> Done
     requires { ⌜ length (now g) ≡ REGION ⌝ }
-    ensures { λ r. ⌜ out (builtOf (r .built)) (r .budget .units) (now (g .exit)) ≡ exec build (maskProg (maskOf masked)) (budget .units) (now (g .entry)) ⌝ }
+    ensures { λ r. ⌜ out (builtOf (r .built)) (r .budget .units) (now (g .exit)) ≡ exec build (maskedProg masked) (budget .units) (now (g .entry)) ⌝ }
 {
     let ty = masked.ty;
     let result = masked.result;
     let op = masked.op;
-    let kept = constant_binary(g, budget, ty, masked.mask, ty, Binary::And, masked.base);
+    let literal = masked.literal;
+    let kept = binary(g, budget, ty, Binary::And, masked.base, masked.mask);
     let built = kept.built;
     let Built::Id(value) = built else {
         return kept;
     };
-    constant_binary(g, kept.budget, ty, masked.literal, result, op, value)
+    constant_binary(g, kept.budget, ty, literal, result, op, value)
 }

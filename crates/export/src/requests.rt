@@ -49,7 +49,7 @@ fn constant_request(code: u64, width: u64, value: Word) -> Request
 {
     let named = type_by_code(code, width);
     match named {
-        MaybeType::Some(ty) => Request::Constant(ty, value),
+        MaybeType::Some(ty) => Request::Constant(value, ty),
         MaybeType::None => Request::UnnamedLeaf(clamped_width(width)),
     }
 }
@@ -59,7 +59,7 @@ fn input_request(number: u64, code: u64, width: u64, range: MaybeRange) -> Reque
 {
     let named = type_by_code(code, width);
     match named {
-        MaybeType::Some(ty) => Request::Input(InputId(number), ty, range),
+        MaybeType::Some(ty) => Request::Input(InputId(number), range, ty),
         MaybeType::None => Request::UnnamedLeaf(clamped_width(width)),
     }
 }
@@ -78,10 +78,10 @@ fn unary_request(code: u64, width: u64, operator: u64, parameter: u64, id: u64) 
     ensures { λ r. ⌜ requestOf r ≡ unaryByCodes code width operator parameter id ⌝ }
 {
     let unnamed = Request::UnnamedOperation(
+        NodeId(id),
+        NodeId(id),
         clamped_width(width),
         clamped_width(parameter),
-        NodeId(id),
-        NodeId(id),
     );
     let named = type_by_code(code, width);
     let MaybeType::Some(ty) = named else {
@@ -91,13 +91,13 @@ fn unary_request(code: u64, width: u64, operator: u64, parameter: u64, id: u64) 
     let MaybeUnary::Some(op) = operation else {
         return unnamed;
     };
-    Request::Unary(ty, op, NodeId(id))
+    Request::Unary(NodeId(id), ty, op)
 }
 
 fn binary_request(code: u64, width: u64, operator: u64, left: u64, right: u64) -> Request
     ensures { λ r. ⌜ requestOf r ≡ binaryByCodes code width operator left right ⌝ }
 {
-    let unnamed = Request::UnnamedOperation(clamped_width(width), 0, NodeId(left), NodeId(right));
+    let unnamed = Request::UnnamedOperation(NodeId(left), NodeId(right), clamped_width(width), 0);
     let named = type_by_code(code, width);
     let MaybeType::Some(ty) = named else {
         return unnamed;
@@ -106,7 +106,7 @@ fn binary_request(code: u64, width: u64, operator: u64, left: u64, right: u64) -
     let MaybeBinary::Some(op) = operation else {
         return unnamed;
     };
-    Request::Binary(ty, op, NodeId(left), NodeId(right))
+    Request::Binary(NodeId(left), NodeId(right), ty, op)
 }
 
 fn slice_request(id: u64, offset: u64, width: u64) -> Request
@@ -132,7 +132,7 @@ fn guard_request(condition: u64, expected: u64) -> Request
     let named = truth_by_number(expected);
     match named {
         MaybeBool::Some(wanted) => Request::Guard(NodeId(condition), wanted),
-        MaybeBool::None => Request::UnnamedOperation(0, 0, NodeId(condition), NodeId(condition)),
+        MaybeBool::None => Request::UnnamedOperation(NodeId(condition), NodeId(condition), 0, 0),
     }
 }
 

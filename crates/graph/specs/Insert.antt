@@ -16,7 +16,7 @@ use Rattle.graph.specs.declared.Built.{Built}
 use Rattle.graph.specs.declared.Built.the-variants as built
 use Rattle.graph.specs.declared.Found.{Found}
 use Rattle.graph.specs.declared.Found.the-variants as found
-use Rattle.graph.specs.Layout.{WORDS, KEY, LIMIT, nodeStart, countOf}
+use Rattle.graph.specs.Layout.{WORDS, X, KEY, LIMIT, nodeStart, countOf}
 use Rattle.graph.specs.Node as node
 use Rattle.graph.specs.Node.{Op, wordsOf, operationAt, aliasAt}
 
@@ -79,6 +79,11 @@ sameWords g at (w ∷ ws) = cond (eqb (getD g at 0) w) (sameWords g (suc at) ws)
 -- has node n the key of these words: their type, range and operation?
 abbrev pub sameKey : List ℕ → List ℕ → ℕ → Bool
 sameKey g ws n = sameWords g (nodeStart n) (take KEY ws)
+
+-- have the k nodes whose words begin at `at` another first field?
+abbrev pub areApart : List ℕ → ℕ → ℕ → ℕ → Bool
+areApart g first at zero = true
+areApart g first at (suc k) = cond (eqb (getD g (at + X) 0) first) false (areApart g first (at + WORDS) k)
 
 -- the lowest of the k numbers from i on that passes a test
 abbrev pub lowest : (ℕ → Bool) → ℕ → ℕ → Option ℕ

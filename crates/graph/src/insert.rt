@@ -6,7 +6,7 @@ ghost use lib.Seq.{paste};
 ghost use Rattle.range.specs.Interval.{intervalOf};
 ghost use Rattle.graph.specs.Layout.{REGION, WORDS, KEY, FIRST, LIMIT, countOf};
 ghost use Rattle.graph.specs.Node.{opOf};
-ghost use Rattle.graph.specs.Insert.{sameWords, sameKey, lowest, foundOf, start, made, builtOf, inserted, appended};
+ghost use Rattle.graph.specs.Insert.{sameWords, sameKey, areApart, lowest, foundOf, start, made, builtOf, inserted, appended};
 use crate::Built;
 use crate::Found;
 use crate::NodeId;
@@ -15,9 +15,11 @@ use crate::encode::words_of;
 use crate::layout::FIRST;
 use crate::layout::KEY;
 use crate::layout::LIMIT;
+use crate::layout::OPERATION;
 use crate::layout::SIZE;
 use crate::layout::WORDS;
 use crate::layout::X;
+use crate::layout::Y;
 use crate::layout::count;
 use crate::read::resolve;
 use range::MaybeRange;
@@ -38,7 +40,7 @@ fn same_words(g: &[u64], at: usize, words: &[u64; SIZE]) -> bool
     true
 }
 
-// The same: the operation's first field tells most nodes apart, so it is looked at first.
+// The same: the operation's first two fields and its code tell most nodes apart, so they are compared first.
 fn same_key(g: &[u64], at: usize, words: &[u64; SIZE]) -> bool
     requires { ⌜ (at + KEY ≤ length (now g)) × (length (now words) ≡ WORDS) ⌝ }
     ensures { λ r. ⌜ r ≡ sameWords (now (g .entry)) at (take KEY (now (words .entry))) ⌝ }
@@ -46,7 +48,51 @@ fn same_key(g: &[u64], at: usize, words: &[u64; SIZE]) -> bool
     if g[at + X] != words[X] {
         return false;
     }
+    if g[at + Y] != words[Y] {
+        return false;
+    }
+    if g[at + OPERATION] != words[OPERATION] {
+        return false;
+    }
     same_words(g, at, words)
+}
+
+// Have the four nodes whose words begin at `at` another first field?
+fn are_apart(g: &[u64], at: usize, first: u64) -> bool
+    requires { ⌜ at + 4 * WORDS ≤ length (now g) ⌝ }
+    ensures { λ r. ⌜ r ≡ areApart (now (g .entry)) first at 4 ⌝ }
+{
+    if g[at + X] == first {
+        return false;
+    }
+    if g[at + SIZE + X] == first {
+        return false;
+    }
+    if g[at + SIZE + SIZE + X] == first {
+        return false;
+    }
+    if g[at + SIZE + SIZE + SIZE + X] == first {
+        return false;
+    }
+    true
+}
+
+// Past nodes with another first field, four at a time: the search from there on has the same answer.
+fn pass_over(g: &[u64], from: u64, end: u64, words: &[u64; SIZE]) -> u64
+    requires { ⌜ (length (now g) ≡ REGION) × (end ≤ LIMIT) × (length (now words) ≡ WORDS) ⌝ }
+    ensures { λ r. ⌜ lowest (sameKey (now (g .entry)) (now (words .entry))) r (end - r) ≡ lowest (sameKey (now (g .entry)) (now (words .entry))) from (end - from) ⌝ }
+{
+    let first = words[X];
+    let last = if 3 < end { end - 3 } else { 0 };
+    let mut node = from;
+    while node < last {
+        let at = (FIRST + WORDS * node) as usize;
+        if !are_apart(g, at, first) {
+            return node;
+        }
+        node += 4;
+    }
+    node
 }
 
 // The lowest node from `from` on, below the count, with this key.
@@ -56,7 +102,7 @@ fn find(g: &[u64], from: u64, words: &[u64; SIZE]) -> Found
 {
     let nodes = count(g);
     let end = if nodes < LIMIT { nodes } else { LIMIT };
-    let mut node = from;
+    let mut node = pass_over(g, from, end, words);
     while node < end {
         let at = (FIRST + WORDS * node) as usize;
         if same_key(g, at, words) {

@@ -24,26 +24,26 @@ pub fn constant_in_graph(g: &mut [u64], ty: ScalarType, value: Word) -> Answer
     requires { ⌜ isGraph (now g) ≡ true ⌝ }
     ensures { λ r. ⌜ called (answerOf r) (now (g .exit)) ≡ requestInGraph (now (g .entry)) (asked.constant ty (val value)) ⌝ }
 {
-    call_in_graph(g, Request::Constant(ty, value))
+    call_in_graph(g, Request::Constant(value, ty))
 }
 
 pub fn constant(g: &mut [u64], ty: ScalarType, value: Word) -> Answer
     ensures { λ r. ⌜ called (answerOf r) (now (g .exit)) ≡ requestCall (now (g .entry)) (asked.constant ty (val value)) ⌝ }
 {
-    call(g, Request::Constant(ty, value))
+    call(g, Request::Constant(value, ty))
 }
 
 pub fn input_in_graph(g: &mut [u64], id: InputId, ty: ScalarType, range: MaybeRange) -> Answer
     requires { ⌜ isGraph (now g) ≡ true ⌝ }
     ensures { λ r. ⌜ called (answerOf r) (now (g .exit)) ≡ requestInGraph (now (g .entry)) (asked.input (id .0) ty (intervalOf range)) ⌝ }
 {
-    call_in_graph(g, Request::Input(id, ty, range))
+    call_in_graph(g, Request::Input(id, range, ty))
 }
 
 pub fn input(g: &mut [u64], id: InputId, ty: ScalarType, range: MaybeRange) -> Answer
     ensures { λ r. ⌜ called (answerOf r) (now (g .exit)) ≡ requestCall (now (g .entry)) (asked.input (id .0) ty (intervalOf range)) ⌝ }
 {
-    call(g, Request::Input(id, ty, range))
+    call(g, Request::Input(id, range, ty))
 }
 
 pub fn effect_in_graph(g: &mut [u64], id: EffectId, ty: ScalarType) -> Answer
@@ -63,13 +63,13 @@ pub fn unary_in_graph(g: &mut [u64], ty: ScalarType, op: Unary, value: NodeId) -
     requires { ⌜ isGraph (now g) ≡ true ⌝ }
     ensures { λ r. ⌜ called (answerOf r) (now (g .exit)) ≡ requestInGraph (now (g .entry)) (asked.unary ty op (value .0)) ⌝ }
 {
-    call_in_graph(g, Request::Unary(ty, op, value))
+    call_in_graph(g, Request::Unary(value, ty, op))
 }
 
 pub fn unary(g: &mut [u64], ty: ScalarType, op: Unary, value: NodeId) -> Answer
     ensures { λ r. ⌜ called (answerOf r) (now (g .exit)) ≡ requestCall (now (g .entry)) (asked.unary ty op (value .0)) ⌝ }
 {
-    call(g, Request::Unary(ty, op, value))
+    call(g, Request::Unary(value, ty, op))
 }
 
 pub fn binary_in_graph(
@@ -82,13 +82,13 @@ pub fn binary_in_graph(
     requires { ⌜ isGraph (now g) ≡ true ⌝ }
     ensures { λ r. ⌜ called (answerOf r) (now (g .exit)) ≡ requestInGraph (now (g .entry)) (asked.binary ty op (left .0) (right .0)) ⌝ }
 {
-    call_in_graph(g, Request::Binary(ty, op, left, right))
+    call_in_graph(g, Request::Binary(left, right, ty, op))
 }
 
 pub fn binary(g: &mut [u64], ty: ScalarType, op: Binary, left: NodeId, right: NodeId) -> Answer
     ensures { λ r. ⌜ called (answerOf r) (now (g .exit)) ≡ requestCall (now (g .entry)) (asked.binary ty op (left .0) (right .0)) ⌝ }
 {
-    call(g, Request::Binary(ty, op, left, right))
+    call(g, Request::Binary(left, right, ty, op))
 }
 
 pub fn slice_in_graph(g: &mut [u64], value: NodeId, offset: u16, width: u16) -> Answer

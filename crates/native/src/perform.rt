@@ -77,15 +77,15 @@ fn work(g: &mut [u64], request: Request, full: Refusal) -> Answer
     ensures { λ r. ⌜ called (answerOf r) (now (g .exit)) ≡ worked full (now (g .entry)) (requestOf request) ⌝ }
 {
     match request {
-        Request::Constant(ty, value) => settle(leaf::constant(g, ty, value), full),
-        Request::Input(id, ty, range) => settle(leaf::input(g, id, ty, range), full),
+        Request::Constant(value, ty) => settle(leaf::constant(g, ty, value), full),
+        Request::Input(id, range, ty) => settle(leaf::input(g, id, ty, range), full),
         Request::Effect(id, ty) => settle(leaf::effect(g, id, ty), full),
-        Request::Unary(ty, op, value) => {
+        Request::Unary(value, ty, op) => {
             let done = build::unary(g, full_budget(), ty, op, value);
             let built = done.built;
             settle(built, full)
         }
-        Request::Binary(ty, op, left, right) => {
+        Request::Binary(left, right, ty, op) => {
             let done = build::binary(g, full_budget(), ty, op, left, right);
             let built = done.built;
             settle(built, full)

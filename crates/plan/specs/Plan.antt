@@ -67,18 +67,18 @@ pub data First : Type 0 where
 abbrev pub planOf : declared.Plan → Plan
 planOf (plan.Give i) = give (i .0)
 planOf plan.None = stop
-planOf (plan.Constant t w) = constant t (val w)
-planOf (plan.Add t r o) = add t (intervalOf r) (opOf o)
-planOf (plan.Identity t i) = identity t (i .0)
-planOf (plan.Unary t o i) = unary t o (i .0)
-planOf (plan.Binary t o i j) = binary t o (i .0) (j .0)
+planOf (plan.Constant w t) = constant t (val w)
+planOf (plan.Add r o t) = add t (intervalOf r) (opOf o)
+planOf (plan.Identity i t) = identity t (i .0)
+planOf (plan.Unary i t o) = unary t o (i .0)
+planOf (plan.Binary i j t o) = binary t o (i .0) (j .0)
 planOf (plan.Slice i o w) = slice (i .0) o w
 planOf (plan.SliceIdentity i o w t) = sliceIdentity (i .0) o w t
-planOf (plan.SliceShift i w t n) = sliceShift (i .0) w t (val n)
-planOf (plan.ConstantBinary s v t o i) = constantBinary s (val v) t o (i .0)
-planOf (plan.AndOr t i j v) = andOr t (i .0) (j .0) (val v)
-planOf (plan.Truncated w o i j) = truncated w o (i .0) (j .0)
-planOf (plan.SplitConcat i o w j v t) = splitConcat (i .0) o w (j .0) v t
+planOf (plan.SliceShift i n w t) = sliceShift (i .0) w t (val n)
+planOf (plan.ConstantBinary v i s t o) = constantBinary s (val v) t o (i .0)
+planOf (plan.AndOr i j v t) = andOr t (i .0) (j .0) (val v)
+planOf (plan.Truncated i j w o) = truncated w o (i .0) (j .0)
+planOf (plan.SplitConcat i j o w v t) = splitConcat (i .0) o w (j .0) v t
 
 -- what an Attempt stands for
 abbrev pub attemptOf : declared-attempt.Attempt → Attempt
@@ -87,8 +87,8 @@ attemptOf (attempt.Masked m) = masked (maskOf m)
 
 -- what a Rest stands for
 abbrev pub restOf : declared-rest.Rest → Rest
-restOf (rest.Unary t o i) = unaryRest t o (i .0)
-restOf (rest.Binary t o i j) = binaryRest t o (i .0) (j .0)
+restOf (rest.Unary i t o) = unaryRest t o (i .0)
+restOf (rest.Binary i j t o) = binaryRest t o (i .0) (j .0)
 restOf (rest.Slice i o w) = sliceRest (i .0) o w
 restOf (rest.Concat i j v w) = concatRest (i .0) (j .0) v w
 

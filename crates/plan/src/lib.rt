@@ -15,24 +15,24 @@ pub enum Plan {
     Give(NodeId),
     // The Rust's None.
     None,
-    Constant(ScalarType, Word),
-    Add(ScalarType, MaybeRange, Operation),
-    Identity(ScalarType, NodeId),
-    Unary(ScalarType, Unary, NodeId),
-    Binary(ScalarType, Binary, NodeId, NodeId),
+    Constant(Word, ScalarType),
+    Add(MaybeRange, Operation, ScalarType),
+    Identity(NodeId, ScalarType),
+    Unary(NodeId, ScalarType, Unary),
+    Binary(NodeId, NodeId, ScalarType, Binary),
     Slice(NodeId, u64, u16),
     // A slice of a node at an offset and width, as a value of the type.
     SliceIdentity(NodeId, u64, u16, ScalarType),
     // The low bits of a node, that many, shifted left by an Integer constant in the type.
-    SliceShift(NodeId, u16, ScalarType, Word),
+    SliceShift(NodeId, Word, u16, ScalarType),
     // A constant of the first type, then an operation of the second type on the node and it.
-    ConstantBinary(ScalarType, Word, ScalarType, Binary, NodeId),
+    ConstantBinary(Word, NodeId, ScalarType, ScalarType, Binary),
     // And of both nodes, then Or of that and a constant.
-    AndOr(ScalarType, NodeId, NodeId, Word),
+    AndOr(NodeId, NodeId, Word, ScalarType),
     // Both nodes truncated to the width, then the operation on them.
-    Truncated(u16, Binary, NodeId, NodeId),
+    Truncated(NodeId, NodeId, u16, Binary),
     // A slice of the low node at an offset and width, one of the high node at 0 and a width, and their concat.
-    SplitConcat(NodeId, u64, u16, NodeId, u16, u16),
+    SplitConcat(NodeId, NodeId, u64, u16, u16, u16),
 }
 
 pub enum MaybePlan {
@@ -48,8 +48,8 @@ pub enum Attempt {
 
 // Where a builder goes on, with its arguments; operands are resolved.
 pub enum Rest {
-    Unary(ScalarType, Unary, NodeId),
-    Binary(ScalarType, Binary, NodeId, NodeId),
+    Unary(NodeId, ScalarType, Unary),
+    Binary(NodeId, NodeId, ScalarType, Binary),
     Slice(NodeId, u64, u16),
     Concat(NodeId, NodeId, u16, u16),
 }

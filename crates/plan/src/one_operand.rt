@@ -39,14 +39,14 @@ use word::MaybeWord;
 fn view_plan(ty: ScalarType, range: MaybeRange, value: NodeId) -> Plan
     ensures { λ r. ⌜ planOf r ≡ viewPlan ty (intervalOf range) (value .0) ⌝ }
 {
-    let view = Plan::Add(ty, range, Operation::Refine(value));
+    let view = Plan::Add(range, Operation::Refine(value), ty);
     match ty {
         ScalarType::Bool => { if fits(range, 1) { view } else { Plan::None } }
         ScalarType::Bits(width) => {
             if fits(range, width) {
                 view
             } else {
-                Plan::Unary(ty, Unary::Truncate(width), value)
+                Plan::Unary(value, ty, Unary::Truncate(width))
             }
         }
         ScalarType::Integer => {
@@ -119,7 +119,7 @@ pub(crate) fn add_or_none(ty: ScalarType, derived: Derived, operation: Operation
     ensures { λ r. ⌜ planOf r ≡ addOr ty (derivedOf derived) (opOf operation) ⌝ }
 {
     match derived {
-        Derived::Some(range) => Plan::Add(ty, range, operation),
+        Derived::Some(range) => Plan::Add(range, operation, ty),
         Derived::None => Plan::None,
     }
 }
@@ -129,7 +129,7 @@ pub fn constant_or_none(ty: ScalarType, value: MaybeWord) -> Plan
     ensures { λ r. ⌜ planOf r ≡ constantOr ty (numberOf value) ⌝ }
 {
     match value {
-        MaybeWord::Some(constant) => Plan::Constant(ty, constant),
+        MaybeWord::Some(constant) => Plan::Constant(constant, ty),
         MaybeWord::None => Plan::None,
     }
 }
@@ -141,7 +141,7 @@ pub fn unary_plan(g: &[u64], ty: ScalarType, op: Unary, value: NodeId) -> Plan
 {
     let range = range_at(g, value);
     if is_view(op, type_at(g, value), range) {
-        return Plan::Identity(ty, value);
+        return Plan::Identity(value, ty);
     }
     add_or_none(ty, unary_range(ty, op, range), Operation::Unary(op, value))
 }
@@ -153,7 +153,7 @@ fn unary_open(g: &[u64], ty: ScalarType, op: Unary, value: NodeId) -> First
     if is_reduction(ty, op) {
         return First::Try(
             Attempt::Modular(value, op.width()),
-            Rest::Unary(ty, op, value),
+            Rest::Unary(value, ty, op),
         );
     }
     First::Do(unary_plan(g, ty, op, value))
@@ -223,7 +223,7 @@ fn truncated_plan(width: u16, operation: Operation) -> Plan
         Operation::Unary(_, _) => Plan::None,
         Operation::Binary(op, left, right) => {
             if is_modular(op) {
-                Plan::Truncated(width, op, left, right)
+                Plan::Truncated(left, right, width, op)
             } else {
                 Plan::None
             }

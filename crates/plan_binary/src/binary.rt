@@ -84,13 +84,13 @@ fn compared_plan(op: Binary, left: MaybeRange, right: MaybeRange) -> MaybePlan
 fn truth(value: bool) -> MaybePlan
     ensures { λ r. ⌜ decidedOf r ≡ some (plan.constant type.Bool (fromBool value)) ⌝ }
 {
-    MaybePlan::Some(Plan::Constant(ScalarType::Bool, from_bool(value)))
+    MaybePlan::Some(Plan::Constant(from_bool(value), ScalarType::Bool))
 }
 
 fn zero(ty: ScalarType) -> MaybePlan
     ensures { λ r. ⌜ decidedOf r ≡ some (plan.constant ty 0) ⌝ }
 {
-    MaybePlan::Some(Plan::Constant(ty, Word { lo: 0, hi: 0 }))
+    MaybePlan::Some(Plan::Constant(Word { lo: 0, hi: 0 }, ty))
 }
 
 // One node with itself.
@@ -98,7 +98,7 @@ fn with_itself(ty: ScalarType, op: Binary, id: NodeId) -> MaybePlan
     ensures { λ r. ⌜ decidedOf r ≡ withItself ty op (id .0) ⌝ }
 {
     if is_kept_twice(op) {
-        return MaybePlan::Some(Plan::Identity(ty, id));
+        return MaybePlan::Some(Plan::Identity(id, ty));
     }
     if is_zero_twice(op) {
         return zero(ty);
@@ -159,7 +159,7 @@ fn store_plan(
     };
     match decided {
         MaybePlan::Some(plan) => plan,
-        MaybePlan::None => Plan::Add(ty, range, Operation::Binary(op, left, right)),
+        MaybePlan::None => Plan::Add(range, Operation::Binary(op, left, right), ty),
     }
 }
 
@@ -189,7 +189,7 @@ fn equality_first(g: &[u64], ty: ScalarType, op: Binary, left: NodeId, right: No
     match comparison {
         MaybeMasked::Some(masked) => First::Try(
             Attempt::Masked(masked),
-            Rest::Binary(ty, op, left, right),
+            Rest::Binary(left, right, ty, op),
         ),
         MaybeMasked::None => First::Do(binary_plan(g, ty, op, left, right)),
     }
@@ -216,7 +216,7 @@ pub fn binary_first(g: &[u64], ty: ScalarType, op: Binary, left: NodeId, right: 
     ensures { λ r. ⌜ firstOf r ≡ binaryFirst (now (g .entry)) ty op (left .0) (right .0) ⌝ }
 {
     if is_swapped(op, literal(g, left), literal(g, right)) {
-        return First::Do(Plan::Binary(ty, op, right, left));
+        return First::Do(Plan::Binary(right, left, ty, op));
     }
     open_first(g, ty, op, left, right)
 }

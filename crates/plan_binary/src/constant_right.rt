@@ -43,10 +43,10 @@ fn zero_plan(ty: ScalarType, op: Binary, left: NodeId) -> MaybePlan
     ensures { λ r. ⌜ decidedOf r ≡ zeroPlan ty op (left .0) ⌝ }
 {
     if is_kept_by_zero(op) {
-        return MaybePlan::Some(Plan::Identity(ty, left));
+        return MaybePlan::Some(Plan::Identity(left, ty));
     }
     if is_zero_by_zero(op) {
-        return MaybePlan::Some(Plan::Constant(ty, Word { lo: 0, hi: 0 }));
+        return MaybePlan::Some(Plan::Constant(Word { lo: 0, hi: 0 }, ty));
     }
     MaybePlan::None
 }
@@ -74,10 +74,10 @@ fn bits_ones(width: u16, op: Binary, left: NodeId, right: NodeId, value: Word) -
         return MaybePlan::None;
     }
     if same_binary(op, Binary::And) {
-        return MaybePlan::Some(Plan::Identity(ty, left));
+        return MaybePlan::Some(Plan::Identity(left, ty));
     }
     if same_binary(op, Binary::Or) {
-        return MaybePlan::Some(Plan::Constant(ty, mask(width)));
+        return MaybePlan::Some(Plan::Constant(mask(width), ty));
     }
     MaybePlan::None
 }
@@ -108,7 +108,7 @@ fn merged_plan(ty: ScalarType, op: Binary, base: NodeId, value: MaybeWord) -> Pl
     ensures { λ r. ⌜ planOf r ≡ mergedPlan ty op (base .0) (numberOf value) ⌝ }
 {
     match value {
-        MaybeWord::Some(constant) => Plan::ConstantBinary(ty, constant, ty, op, base),
+        MaybeWord::Some(constant) => Plan::ConstantBinary(constant, base, ty, ty, op),
         MaybeWord::None => Plan::None,
     }
 }
@@ -131,7 +131,7 @@ fn mask_of_mask(
         return MaybePlan::Some(merged_plan(ty, op, base, both));
     }
     if same_binary(inner, Binary::Or) && same_binary(op, Binary::And) {
-        return MaybePlan::Some(Plan::AndOr(ty, base, right, first.bitand(value)));
+        return MaybePlan::Some(Plan::AndOr(base, right, first.bitand(value), ty));
     }
     MaybePlan::None
 }
@@ -206,7 +206,7 @@ fn remainder_plan(ty: ScalarType, op: Binary, left: NodeId, value: Word) -> Mayb
 {
     if same_binary(op, Binary::RemainderUnsigned) && value.is_power_of_two() {
         let bits = value.wrapping_sub(Word { lo: 1, hi: 0 });
-        return MaybePlan::Some(Plan::ConstantBinary(ty, bits, ty, Binary::And, left));
+        return MaybePlan::Some(Plan::ConstantBinary(bits, left, ty, ty, Binary::And));
     }
     MaybePlan::None
 }
@@ -217,7 +217,7 @@ fn sub_of_sub(ty: ScalarType, base: NodeId, sum: MaybeWord) -> MaybePlan
 {
     match sum {
         MaybeWord::Some(value) => {
-            MaybePlan::Some(Plan::ConstantBinary(ty, value, ty, Binary::Sub, base))
+            MaybePlan::Some(Plan::ConstantBinary(value, base, ty, ty, Binary::Sub))
         }
         MaybeWord::None => MaybePlan::None,
     }
@@ -300,7 +300,7 @@ fn offset_compared(
         return MaybePlan::None;
     };
     let constant = ScalarType::Bits(width);
-    MaybePlan::Some(Plan::ConstantBinary(constant, value, ty, op, base))
+    MaybePlan::Some(Plan::ConstantBinary(value, base, constant, ty, op))
 }
 
 fn offset_bits(

@@ -66,7 +66,7 @@ fn back_shift(width: u16, count: Word, shape: ByConstant) -> Plan
         lo: first.lo - count.lo,
         hi: 0,
     };
-    Plan::SliceShift(base, width - (first.lo % 65536) as u16, ty, rest)
+    Plan::SliceShift(base, rest, width - (first.lo % 65536) as u16, ty)
 }
 
 // A shift of a shift left, both below the width.
@@ -90,7 +90,7 @@ fn shift_of_shift(op: Binary, width: u16, count: Word, shape: ByConstant) -> May
         hi: 0,
     };
     let ty = ScalarType::Bits(width);
-    MaybePlan::Some(Plan::ConstantBinary(ScalarType::Integer, sum, ty, op, base))
+    MaybePlan::Some(Plan::ConstantBinary(sum, base, ScalarType::Integer, ty, op))
 }
 
 fn shift_by(g: &[u64], op: Binary, width: u16, left: NodeId, count: Word) -> MaybePlan
@@ -100,7 +100,7 @@ fn shift_by(g: &[u64], op: Binary, width: u16, left: NodeId, count: Word) -> May
     let ty = ScalarType::Bits(width);
     let narrow = is_narrow(type_at(g, left), width) || fits(range_at(g, left), width);
     if is_shifted_out(op, width, count, narrow) {
-        return MaybePlan::Some(Plan::Constant(ty, Word { lo: 0, hi: 0 }));
+        return MaybePlan::Some(Plan::Constant(Word { lo: 0, hi: 0 }, ty));
     }
     let source = origin(g, left);
     if !same_type(type_at(g, source), ty) {

@@ -60,10 +60,10 @@ fn bounded_plan(range: MaybeRange, value: NodeId, offset: u64, width: u16) -> Ma
     let max = bounds.max;
     let upper = lowered(max.as_word(), offset);
     if upper.is_zero() {
-        return MaybePlan::Some(Plan::Constant(ScalarType::Bits(width), Word { lo: 0, hi: 0 }));
+        return MaybePlan::Some(Plan::Constant(Word { lo: 0, hi: 0 }, ScalarType::Bits(width)));
     }
     if offset == 0 && bounds.is_in_bits(width) {
-        return MaybePlan::Some(Plan::Identity(ScalarType::Bits(width), value));
+        return MaybePlan::Some(Plan::Identity(value, ScalarType::Bits(width)));
     }
     MaybePlan::None
 }
@@ -78,7 +78,7 @@ fn new_slice(value: NodeId, offset: u64, width: u16) -> Plan
         offset: (offset % 128) as u16,
         width: width,
     };
-    Plan::Add(ty, type_range(ty), operation)
+    Plan::Add(type_range(ty), operation, ty)
 }
 
 // A slice of a concat: of its high part, of its low part, or of both.
@@ -93,7 +93,7 @@ fn slice_concat(high: NodeId, low: NodeId, low_width: u16, offset: u64, width: u
         return Plan::Slice(low, offset, width);
     }
     let lower_width = low_width - (offset % 128) as u16;
-    Plan::SplitConcat(low, offset, lower_width, high, width - lower_width, width)
+    Plan::SplitConcat(low, high, offset, lower_width, width - lower_width, width)
 }
 
 fn slice_operation(operation: Operation, value: NodeId, offset: u64, width: u16) -> Plan
@@ -132,7 +132,7 @@ fn slice_part(g: &[u64], value: NodeId, offset: u64, width: u16) -> Plan
 {
     let ty = type_at(g, value);
     if 128 <= offset || is_above(ty, offset) {
-        return Plan::Constant(ScalarType::Bits(width), Word { lo: 0, hi: 0 });
+        return Plan::Constant(Word { lo: 0, hi: 0 }, ScalarType::Bits(width));
     }
     if offset == 0 && same_type(ty, ScalarType::Bits(width)) {
         return Plan::Give(value);
@@ -172,8 +172,8 @@ pub fn slice_first(g: &[u64], value: NodeId, offset: u64, width: u16) -> First
     let known = literal(g, value);
     match known {
         MaybeWord::Some(constant) => First::Do(Plan::Constant(
-            ScalarType::Bits(width),
             lowered(constant, offset),
+            ScalarType::Bits(width),
         )),
         MaybeWord::None => slice_open(g, value, offset, width),
     }
@@ -189,7 +189,7 @@ pub fn concat_plan(high: NodeId, low: NodeId, low_width: u16, width: u16) -> Pla
         low: low,
         low_width: low_width,
     };
-    Plan::Add(ty, type_range(ty), operation)
+    Plan::Add(type_range(ty), operation, ty)
 }
 
 // The constants of both parts side by side.
@@ -214,7 +214,7 @@ fn joined_plan(high: MaybeWord, low: MaybeWord, low_width: u16, width: u16) -> M
         return MaybePlan::None;
     };
     let ty = ScalarType::Bits(width);
-    MaybePlan::Some(Plan::Constant(ty, joined(a, b, low_width)))
+    MaybePlan::Some(Plan::Constant(joined(a, b, low_width), ty))
 }
 
 fn cut_of(operation: Operation) -> MaybeCut
@@ -281,7 +281,7 @@ fn field_plan(
     let keep = field.keep;
     let literal = field.literal;
     let MaybeId::Some(base) = found else {
-        return First::Do(Plan::Constant(ty, literal));
+        return First::Do(Plan::Constant(literal, ty));
     };
     if !same_type(type_at(g, base), ty) {
         return First::Do(concat_plan(high, low, low_width, width));

@@ -69,7 +69,7 @@ fn constant_value(ty: ScalarType, rest: &[u8]) -> MaybeRequest
     if rest.len() != 16 {
         return MaybeRequest::None;
     }
-    MaybeRequest::Some(Request::Constant(ty, word_of(rest)))
+    MaybeRequest::Some(Request::Constant(word_of(rest), ty))
 }
 
 fn input(body: &[u8]) -> MaybeRequest
@@ -117,7 +117,7 @@ fn input_plain(number: u64, ty: ScalarType, rest: &[u8]) -> MaybeRequest
     if rest.len() != 0 {
         return MaybeRequest::None;
     }
-    MaybeRequest::Some(Request::Input(InputId(number), ty, MaybeRange::None))
+    MaybeRequest::Some(Request::Input(InputId(number), MaybeRange::None, ty))
 }
 
 fn input_minimum(number: u64, ty: ScalarType, rest: &[u8]) -> MaybeRequest
@@ -137,7 +137,7 @@ fn input_maximum(number: u64, ty: ScalarType, min: Word, rest: &[u8]) -> MaybeRe
         return MaybeRequest::None;
     }
     let range = range_by_words(1, min, word_of(rest));
-    MaybeRequest::Some(Request::Input(InputId(number), ty, range))
+    MaybeRequest::Some(Request::Input(InputId(number), range, ty))
 }
 
 fn effect(body: &[u8]) -> MaybeRequest
@@ -195,7 +195,7 @@ fn unary_id(ty: ScalarType, op: Unary, rest: &[u8]) -> MaybeRequest
     if rest.len() != 2 {
         return MaybeRequest::None;
     }
-    MaybeRequest::Some(Request::Unary(ty, op, NodeId(number_of(rest))))
+    MaybeRequest::Some(Request::Unary(NodeId(number_of(rest)), ty, op))
 }
 
 fn binary(body: &[u8]) -> MaybeRequest
@@ -240,7 +240,7 @@ fn binary_right(ty: ScalarType, op: Binary, left: u64, rest: &[u8]) -> MaybeRequ
     if rest.len() != 2 {
         return MaybeRequest::None;
     }
-    MaybeRequest::Some(Request::Binary(ty, op, NodeId(left), NodeId(number_of(rest))))
+    MaybeRequest::Some(Request::Binary(NodeId(left), NodeId(number_of(rest)), ty, op))
 }
 
 fn slice(body: &[u8]) -> MaybeRequest

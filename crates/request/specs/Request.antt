@@ -33,17 +33,17 @@ pub data Request : Type 0 where
 
 -- what a Request of the code stands for
 abbrev pub requestOf : declared.Request → Request
-requestOf (asked.Constant t v) = constant t (val v)
-requestOf (asked.Input i t r) = input (i .0) t (intervalOf r)
+requestOf (asked.Constant v t) = constant t (val v)
+requestOf (asked.Input i r t) = input (i .0) t (intervalOf r)
 requestOf (asked.Effect i t) = effect (i .0) t
-requestOf (asked.Unary t o v) = unary t o (v .0)
-requestOf (asked.Binary t o l r) = binary t o (l .0) (r .0)
+requestOf (asked.Unary v t o) = unary t o (v .0)
+requestOf (asked.Binary l r t o) = binary t o (l .0) (r .0)
 requestOf (asked.Slice v o w) = slice (v .0) o w
 requestOf (asked.Concat h l v w) = concat (h .0) (l .0) v w
 requestOf (asked.UnsignedRange v low high) = unsignedRange (v .0) (val low) (val high)
 requestOf (asked.Guard n e) = guard (n .0) e
 requestOf (asked.UnnamedLeaf w) = unnamed (w ∷ []) []
-requestOf (asked.UnnamedOperation w p i j) = unnamed (w ∷ p ∷ []) (i .0 ∷ j .0 ∷ [])
+requestOf (asked.UnnamedOperation i j w p) = unnamed (w ∷ p ∷ []) (i .0 ∷ j .0 ∷ [])
 
 -- ---- the questions
 

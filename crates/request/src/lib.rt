@@ -14,11 +14,11 @@ use word::Word;
 
 // A call that answers an id, None, Done or a refusal.
 pub enum Request {
-    Constant(ScalarType, Word),
-    Input(InputId, ScalarType, MaybeRange),
+    Constant(Word, ScalarType),
+    Input(InputId, MaybeRange, ScalarType),
     Effect(EffectId, ScalarType),
-    Unary(ScalarType, Unary, NodeId),
-    Binary(ScalarType, Binary, NodeId, NodeId),
+    Unary(NodeId, ScalarType, Unary),
+    Binary(NodeId, NodeId, ScalarType, Binary),
     // A node, an offset and a width.
     Slice(NodeId, u16, u16),
     // High, low, low's width and the width.
@@ -30,5 +30,5 @@ pub enum Request {
     // A leaf whose type's code names nothing: the width beside it.
     UnnamedLeaf(u16),
     // An operation with a code that names nothing: the widths and ids beside it.
-    UnnamedOperation(u16, u16, NodeId, NodeId),
+    UnnamedOperation(NodeId, NodeId, u16, u16),
 }

@@ -41,17 +41,17 @@ pub fn are_widths(request: Request) -> bool
     ensures { λ r. ⌜ r ≡ allUpTo WIDEST (widths (requestOf request)) ⌝ }
 {
     match request {
-        Request::Constant(ty, _) => is_width(type_width(ty)),
-        Request::Input(_, ty, _) => is_width(type_width(ty)),
+        Request::Constant(_, ty) => is_width(type_width(ty)),
+        Request::Input(_, _, ty) => is_width(type_width(ty)),
         Request::Effect(_, ty) => is_width(type_width(ty)),
-        Request::Unary(ty, op, _) => are_two_widths(type_width(ty), op.width()),
-        Request::Binary(ty, _, _, _) => is_width(type_width(ty)),
+        Request::Unary(_, ty, op) => are_two_widths(type_width(ty), op.width()),
+        Request::Binary(_, _, ty, _) => is_width(type_width(ty)),
         Request::Slice(_, _, width) => is_width(width),
         Request::Concat(_, _, low_width, width) => are_two_widths(low_width, width),
         Request::UnsignedRange(_, _, _) => true,
         Request::Guard(_, _) => true,
         Request::UnnamedLeaf(width) => is_width(width),
-        Request::UnnamedOperation(width, parameter, _, _) => are_two_widths(width, parameter),
+        Request::UnnamedOperation(_, _, width, parameter) => are_two_widths(width, parameter),
     }
 }
 
@@ -79,14 +79,14 @@ pub fn are_ids(nodes: u64, request: Request) -> bool
         Request::Constant(_, _) => true,
         Request::Input(_, _, _) => true,
         Request::Effect(_, _) => true,
-        Request::Unary(_, _, value) => is_id(nodes, value),
-        Request::Binary(_, _, left, right) => are_two_ids(nodes, left, right),
+        Request::Unary(value, _, _) => is_id(nodes, value),
+        Request::Binary(left, right, _, _) => are_two_ids(nodes, left, right),
         Request::Slice(value, _, _) => is_id(nodes, value),
         Request::Concat(high, low, _, _) => are_two_ids(nodes, high, low),
         Request::UnsignedRange(value, _, _) => is_id(nodes, value),
         Request::Guard(condition, _) => is_id(nodes, condition),
         Request::UnnamedLeaf(_) => true,
-        Request::UnnamedOperation(_, _, first, second) => are_two_ids(nodes, first, second),
+        Request::UnnamedOperation(first, second, _, _) => are_two_ids(nodes, first, second),
     }
 }
 
@@ -99,8 +99,8 @@ pub fn is_typed(g: &[u64], request: Request) -> bool
         Request::Constant(_, _) => true,
         Request::Input(_, _, _) => true,
         Request::Effect(_, _) => true,
-        Request::Unary(ty, op, value) => is_unary_typed(op, type_at(g, value), ty),
-        Request::Binary(ty, op, left, right) => {
+        Request::Unary(value, ty, op) => is_unary_typed(op, type_at(g, value), ty),
+        Request::Binary(left, right, ty, op) => {
             is_binary_typed(op, type_at(g, left), type_at(g, right), ty)
         }
         Request::Slice(_, _, _) => true,
@@ -147,8 +147,8 @@ pub fn is_declarable(request: Request) -> bool
     ensures { λ r. ⌜ r ≡ declarable (requestOf request) ⌝ }
 {
     match request {
-        Request::Constant(ty, value) => is_bool_value(ty, value),
-        Request::Input(_, ty, range) => is_range_of(ty, range),
+        Request::Constant(value, ty) => is_bool_value(ty, value),
+        Request::Input(_, range, ty) => is_range_of(ty, range),
         Request::Effect(_, _) => true,
         Request::Unary(_, _, _) => true,
         Request::Binary(_, _, _, _) => true,

@@ -21,14 +21,19 @@ abbrev μ-loop : tie.MeasureT-loop
 count-requires : tie.Need-count-requires Inv-loop μ-loop
 count-requires c κs = search needs
 
+pass-over-requires : tie.Need-pass-over-requires Inv-loop μ-loop
+pass-over-requires c κs =
+    let m : c .if1 .end ≤ LIMIT = ⊎-elim (λ w. omega (arith, w .1, w .0 .taken)) (λ w. omega (arith, w .1)) (c .if1 .came) in
+    search (needs, m)
+
 loop-holds : tie.Need-loop-holds Inv-loop μ-loop
 loop-holds c =
-    let n = countOf (c .before .before .before .args .g .now) in
-    let t = c .before .count .ensures in
-    let e : c .if1 .end ≡ min n LIMIT =
-    ⊎-elim (λ w. w .1 ∙ t ∙ sym (min-eq-left (omega (arith, w .0 .taken)))) (λ w. w .1 ∙ sym (min-eq-right (omega (arith, w .0 .left)))) (c .if1 .came)
+    let n = countOf (c .before .before .before .before .args .g .now) in
+    let t = c .before .before .count .ensures in
+    let e : c .before .if1 .end ≡ min n LIMIT =
+    ⊎-elim (λ w. w .1 ∙ t ∙ sym (min-eq-left (omega (arith, w .0 .taken)))) (λ w. w .1 ∙ sym (min-eq-right (omega (arith, w .0 .left)))) (c .before .if1 .came)
     in
-    (e, omega (arith, min-le-right n LIMIT), refl)
+    (e, omega (arith, min-le-right n LIMIT), sym (c .pass-over .ensures))
 
 mul-at : tie.Need-mul-at Inv-loop μ-loop
 mul-at c = search needs
@@ -41,13 +46,13 @@ same-key-requires c κs = search needs
 
 returns : tie.Need-returns Inv-loop μ-loop
 returns c =
-    let a = c .before .before .before .before .before .before .before .args in
+    let a = c .before .before .before .before .before .before .before .before .args in
     let l = c .before .before .before .loop in
     let p = sameKey (a .g .now) (a .words .now) in
     sym
     (ap (λ (n : ℕ). lowest p (a .from) (n - a .from)) (sym (l .inv .0))
     ∙ l .inv .2
-    ∙ lowest-at p (l .node) (c .before .before .before .before .if1 .end) (search needs) (sym (c .before .same-key .ensures) ∙ c .if2 .taken))
+    ∙ lowest-at p (l .node) (c .before .before .before .before .before .if1 .end) (search needs) (sym (c .before .same-key .ensures) ∙ c .if2 .taken))
 
 add-node : tie.Need-add-node Inv-loop μ-loop
 add-node c = search needs
@@ -57,24 +62,24 @@ loop-less c = search needs
 
 loop-again : tie.Need-loop-again Inv-loop μ-loop
 loop-again c =
-    let a = c .before .before .before .before .before .before .before .args in
+    let a = c .before .before .before .before .before .before .before .before .args in
     let l = c .before .before .before .loop in (
       l .inv .0,
       l .inv .1,
       l .inv .2
-          ∙ lowest-on (sameKey (a .g .now) (a .words .now)) (l .node) (c .before .before .before .before .if1 .end) (search needs)
+          ∙ lowest-on (sameKey (a .g .now) (a .words .now)) (l .node) (c .before .before .before .before .before .if1 .end) (search needs)
           (sym (c .before .same-key .ensures) ∙ c .if2 .left),
     )
 
 returns-2 : tie.Need-returns-2 Inv-loop μ-loop
 returns-2 c =
-    let a = c .before .before .before .before .before .args in
+    let a = c .before .before .before .before .before .before .args in
     let l = c .before .loop in
     let p = sameKey (a .g .now) (a .words .now) in
     sym
     (ap (λ (n : ℕ). lowest p (a .from) (n - a .from)) (sym (l .inv .0))
     ∙ l .inv .2
-    ∙ lowest-end p (l .node) (c .before .before .if1 .end) (search needs))
+    ∙ lowest-end p (l .node) (c .before .before .before .if1 .end) (search needs))
 
 pub find-spec : {M : Type 1} → statement M
 find-spec =
@@ -83,6 +88,7 @@ find-spec =
     Inv-loop
     μ-loop
     count-requires
+    pass-over-requires
     loop-holds
     mul-at
     add-at

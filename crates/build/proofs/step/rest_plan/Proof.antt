@@ -1,7 +1,7 @@
 use borrow.Author.Needs.{needs}
 use Rattle.build.specs.Rest.{restPlan}
-use Rattle.build.proofs.rest_of_builder.rest_plan.Statement.{statement}
-use Rattle.build.proofs.rest_of_builder.rest_plan.Tie as tie
+use Rattle.build.proofs.step.rest_plan.Statement.{statement}
+use Rattle.build.proofs.step.rest_plan.Tie as tie
 
 enum-known-rest : tie.Need-enum-known-rest
 enum-known-rest c = search needs
