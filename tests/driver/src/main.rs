@@ -1,5 +1,5 @@
 // Compares the proved library with the original on random calls: the answers, and every word after every call.
-// usage: driver [--program PATH | self] [SEED [ROUNDS]]   or   driver times   or   driver vectors FOLDER
+// usage: driver [--program PATH | self] [SEED [ROUNDS]]   or   driver times   or   driver one NAME NODES old|new original|library   or   driver vectors FOLDER
 mod builders;
 mod call;
 mod chains;
@@ -134,6 +134,21 @@ fn main() -> ExitCode {
         ["times"] => {
             times::print(library().as_mut(), twin().as_mut());
             ExitCode::SUCCESS
+        }
+        ["one", name, nodes, node, side] => {
+            let (is_old, is_original) = (*node == "old", *side == "original");
+            let known = times::one(
+                twin().as_mut(),
+                name,
+                number(nodes) as usize,
+                is_old,
+                is_original,
+            );
+            if known {
+                ExitCode::SUCCESS
+            } else {
+                ExitCode::FAILURE
+            }
         }
         // The original on a graph filled from the region, against the graph that it has grown.
         ["self", rest @ ..] => run(Box::new(Original), None, true, rest),

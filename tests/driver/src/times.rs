@@ -1,9 +1,10 @@
 // How long a call takes on each side, by the number of nodes: `effect`, the thinnest over `insert`, each builder, a
-// retain and a guard. The original is timed as it is, not the metered one.
+// retain and a guard. The original is timed as it is, not the metered one. `one` makes the calls of one builder alone,
+// for a count of their instructions.
 use crate::call::{Call, Side};
 use crate::native;
 use crate::original::apply;
-use crate::plain::{Binary, Graph, ScalarType, Unary};
+use crate::plain::{Binary, Graph, Range, ScalarType, Unary};
 use crate::words::{REGION, encode};
 use ScalarType::{Bits, Bool, Integer};
 use std::hint::black_box;
@@ -13,20 +14,64 @@ use std::time::Instant;
 const NODES: [usize; 4] = [16, 128, 500, 512];
 const BUILDER_NODES: [usize; 3] = [16, 128, 500];
 const NEW: usize = 10;
+// The largest value of an input that is divided by.
+const DIVISOR: i128 = 1000;
 const COPIES: usize = 8;
 const CALLS: usize = 4_000;
 // The smallest of so many measurements is taken.
 const TIMES: usize = 30;
 
-// A call as both sides have it, on nodes of Bits(16).
+// A binary operator, with the type of its result.
+#[derive(Clone, Copy)]
+enum Pair {
+    Add,
+    Mul,
+    Equal,
+    DivideSigned,
+    RemainderSigned,
+    DivideUnsigned,
+    RemainderUnsigned,
+}
+
+impl Pair {
+    // As the original has it, and by its code.
+    fn operator(self) -> (Binary, u64) {
+        match self {
+            Pair::Add => (Binary::Add, 20),
+            Pair::Mul => (Binary::Mul, 22),
+            Pair::Equal => (Binary::Equal, 29),
+            Pair::DivideSigned => (Binary::DivideSigned, 35),
+            Pair::RemainderSigned => (Binary::RemainderSigned, 36),
+            Pair::DivideUnsigned => (Binary::DivideUnsigned, 37),
+            Pair::RemainderUnsigned => (Binary::RemainderUnsigned, 38),
+        }
+    }
+
+    fn result(self) -> (ScalarType, native::ScalarType) {
+        match self {
+            Pair::Add | Pair::Mul => (Bits(16), native::ScalarType::Bits(16)),
+            Pair::Equal => (Bool, native::ScalarType::Bool),
+            _ => (Integer, native::ScalarType::Integer),
+        }
+    }
+}
+
+// A call as both sides have it, on nodes of Bits(16) but for Effect, Wide and Divisor.
 #[derive(Clone, Copy)]
 enum Work {
     Effect(usize),
     Leaf(usize),
+    Wide(usize),
+    // An input of an Integer from 1 to 1,000, which a division can have on its right.
+    Divisor(usize),
+    Constant(usize),
     Unary(usize),
-    Binary(usize),
+    Truncate(usize),
+    Binary(Pair, usize),
     Slice(usize),
     Concat(usize),
+    // Of 64 and 64 bits.
+    WideConcat(usize),
     UnsignedRange(usize),
     // A constant, whether a node is below another, and a guard on such a condition.
     Limit,
@@ -34,15 +79,32 @@ enum Work {
     Guard(usize),
 }
 
-// A builder by its name, and its call on a node and the one after it.
-type Builder = (&'static str, fn(usize) -> Work);
+// A builder by its name, the leaves that it works on, and its call on a leaf and the one after it.
+type Builder = (&'static str, fn(usize) -> Work, fn(usize) -> Work);
 
-const BUILDERS: [Builder; 5] = [
-    ("unary", Work::Unary),
-    ("binary", Work::Binary),
-    ("slice", Work::Slice),
-    ("concat", Work::Concat),
-    ("unsigned range", Work::UnsignedRange),
+const BUILDERS: [Builder; 14] = [
+    ("constant", Work::Leaf, Work::Constant),
+    ("unary", Work::Leaf, Work::Unary),
+    ("truncate", Work::Leaf, Work::Truncate),
+    ("add", Work::Leaf, |id| Work::Binary(Pair::Add, id)),
+    ("mul", Work::Leaf, |id| Work::Binary(Pair::Mul, id)),
+    ("equal", Work::Leaf, |id| Work::Binary(Pair::Equal, id)),
+    ("slice", Work::Leaf, Work::Slice),
+    ("concat", Work::Leaf, Work::Concat),
+    ("concat of 64 and 64", Work::Wide, Work::WideConcat),
+    ("unsigned range", Work::Leaf, Work::UnsignedRange),
+    ("divide signed", Work::Divisor, |id| {
+        Work::Binary(Pair::DivideSigned, id)
+    }),
+    ("remainder signed", Work::Divisor, |id| {
+        Work::Binary(Pair::RemainderSigned, id)
+    }),
+    ("divide unsigned", Work::Divisor, |id| {
+        Work::Binary(Pair::DivideUnsigned, id)
+    }),
+    ("remainder unsigned", Work::Divisor, |id| {
+        Work::Binary(Pair::RemainderUnsigned, id)
+    }),
 ];
 
 impl Work {
@@ -50,10 +112,21 @@ impl Work {
         match self {
             Work::Effect(number) => Some(graph.effect(number, Integer)),
             Work::Leaf(number) => Some(graph.effect(number, Bits(16))),
+            Work::Wide(number) => Some(graph.effect(number, Bits(64))),
+            Work::Divisor(number) => {
+                let range = Range {
+                    min: 1,
+                    max: DIVISOR,
+                };
+                Some(graph.input(number, Integer, Some(range)))
+            }
+            Work::Constant(id) => Some(graph.constant(Bits(16), 1000 + id as u128)),
             Work::Unary(id) => graph.unary(Bits(16), Unary::BitNot, id),
-            Work::Binary(id) => graph.binary(Bits(16), Binary::Add, id, id + 1),
+            Work::Truncate(id) => graph.unary(Bits(8), Unary::Truncate(8), id),
+            Work::Binary(pair, id) => graph.binary(pair.result().0, pair.operator().0, id, id + 1),
             Work::Slice(id) => Some(graph.slice(id, 4, 8)),
             Work::Concat(id) => Some(graph.concat(id, id + 1, 16, 32)),
+            Work::WideConcat(id) => Some(graph.concat(id, id + 1, 64, 128)),
             Work::UnsignedRange(id) => graph.unsigned_range(id, 3, 200),
             Work::Limit => Some(graph.constant(Bits(16), 200)),
             Work::IsBelow(id, limit) => graph.binary(Bool, Binary::LessUnsigned, id, limit),
@@ -70,23 +143,37 @@ impl Work {
         match self {
             Work::Effect(number) => effect(number as u64, native::ScalarType::Integer.into()),
             Work::Leaf(number) => effect(number as u64, bits),
+            Work::Wide(number) => effect(number as u64, native::ScalarType::Bits(64).into()),
+            Work::Divisor(number) => Call::Input {
+                number: number as u64,
+                ty: native::ScalarType::Integer.into(),
+                range: Some(native::Range {
+                    min: 1,
+                    max: DIVISOR,
+                }),
+            },
+            Work::Constant(_) | Work::Limit => self.constant(),
             Work::Unary(id) => Call::Unary {
                 ty: bits,
                 op: 11,
                 parameter: 0,
                 id: id as u64,
             },
-            Work::Binary(id) => Call::Binary {
-                ty: bits,
-                op: 20,
+            Work::Truncate(id) => Call::Unary {
+                ty: native::ScalarType::Bits(8).into(),
+                op: 13,
+                parameter: 8,
+                id: id as u64,
+            },
+            Work::Binary(pair, id) => Call::Binary {
+                ty: pair.result().1.into(),
+                op: pair.operator().1,
                 left: id as u64,
                 right: id as u64 + 1,
             },
-            Work::Slice(id) | Work::Concat(id) | Work::UnsignedRange(id) => self.field(id as u64),
-            Work::Limit => Call::Constant {
-                ty: bits,
-                value: 200,
-            },
+            Work::Slice(id) | Work::Concat(id) | Work::WideConcat(id) | Work::UnsignedRange(id) => {
+                self.field(id as u64)
+            }
             Work::IsBelow(id, limit) => Call::Binary {
                 ty: native::ScalarType::Bool.into(),
                 op: 32,
@@ -97,6 +184,17 @@ impl Work {
                 condition: condition as u64,
                 expected: 1,
             },
+        }
+    }
+
+    fn constant(self) -> Call {
+        let value = match self {
+            Work::Constant(id) => 1000 + id as u128,
+            _ => 200,
+        };
+        Call::Constant {
+            ty: native::ScalarType::Bits(16).into(),
+            value,
         }
     }
 
@@ -113,6 +211,12 @@ impl Work {
                 low: id + 1,
                 low_width: 16,
                 width: 32,
+            },
+            Work::WideConcat(_) => Call::Concat {
+                high: id,
+                low: id + 1,
+                low_width: 64,
+                width: 128,
             },
             _ => Call::UnsignedRange {
                 id,
@@ -189,6 +293,17 @@ fn new_times(tiers: &mut Tiers, before: &[Work], works: &[Work]) -> [f64; 3] {
     [original, twin, asking]
 }
 
+// As `work` and `put`, and called in one place: what is counted are the calls made there.
+#[inline(never)]
+fn counted_work(graph: &mut Graph, works: &[Work]) {
+    work(graph, works);
+}
+
+#[inline(never)]
+fn counted_put(side: &mut dyn Side, region: &mut [u64], calls: &[Call]) {
+    put(side, region, calls);
+}
+
 // The graph and the region that calls lead to.
 fn after(works: &[Work]) -> (Graph, Vec<u64>) {
     let mut graph = Graph::default();
@@ -230,27 +345,56 @@ fn print_leaves(tiers: &mut Tiers) {
 fn print_builders(tiers: &mut Tiers) {
     println!("| builder | nodes | node | original | in graph | asking |");
     println!("|---|---|---|---|---|---|");
-    for (name, builder) in BUILDERS {
+    for (name, leaf, builder) in BUILDERS {
         for nodes in BUILDER_NODES {
-            // Three calls on the first leaves. Where their nodes are old, they are the last of the graph.
-            let new: Vec<Work> = (0..3).map(builder).collect();
-            let leaves: Vec<Work> = (0..nodes).map(Work::Leaf).collect();
-            let few = [&leaves[..8], &new[..]].concat();
-            let added = after(&few).0.scalars.len() - 8;
-            let before = [&leaves[..nodes - added], &new[..]].concat();
+            let (leaves, full) = graphs(leaf, builder, nodes);
             let works: Vec<Work> = (0..CALLS).map(|turn| builder(turn % 3)).collect();
-            let [original, twin, asking] = old_times(tiers, &before, &works);
+            let [original, twin, asking] = old_times(tiers, &full, &works);
             println!("| {name} | {nodes} | old | {original:.0} | {twin:.0} | {asking:.0} |");
-            let [original, twin, asking] = new_times(tiers, &leaves, &new);
+            let [original, twin, asking] = new_times(tiers, &leaves, &works[..3]);
             println!("| {name} | {nodes} | new | {original:.0} | {twin:.0} | {asking:.0} |");
         }
     }
 }
 
+// So many leaves, and a graph of as many nodes whose last are those of three calls on the first leaves.
+fn graphs(
+    leaf: fn(usize) -> Work,
+    builder: fn(usize) -> Work,
+    nodes: usize,
+) -> (Vec<Work>, Vec<Work>) {
+    let new: Vec<Work> = (0..3).map(builder).collect();
+    let leaves: Vec<Work> = (0..nodes).map(leaf).collect();
+    let few = [&leaves[..8], &new[..]].concat();
+    let added = after(&few).0.scalars.len() - 8;
+    let full = [&leaves[..nodes - added], &new[..]].concat();
+    (leaves, full)
+}
+
+// Three calls of one builder on one side, on an old or a new node: a count of the instructions of `counted_work` or `counted_put` is theirs.
+pub fn one(twin: &mut dyn Side, name: &str, nodes: usize, is_old: bool, is_original: bool) -> bool {
+    let Some((_, leaf, builder)) = BUILDERS.iter().find(|(known, _, _)| *known == name) else {
+        return false;
+    };
+    let (leaves, full) = graphs(*leaf, *builder, nodes);
+    let before = if is_old { &full } else { &leaves };
+    let works: Vec<Work> = (0..3).map(*builder).collect();
+    let (mut graph, mut region) = after(before);
+    if is_original {
+        counted_work(&mut graph, &works);
+    } else {
+        let calls: Vec<Call> = works.iter().map(|work| work.call()).collect();
+        counted_put(twin, &mut region, &calls);
+    }
+    true
+}
+
 // A retain on copies of a graph of leaves and sums of two, of which every other sum is dropped.
 fn retain_times(tiers: &mut Tiers, nodes: usize) -> [f64; 3] {
     let leaves = (0..nodes / 2).map(Work::Leaf);
-    let before: Vec<Work> = leaves.chain((0..nodes / 2 - 1).map(Work::Binary)).collect();
+    let before: Vec<Work> = leaves
+        .chain((0..nodes / 2 - 1).map(|id| Work::Binary(Pair::Add, id)))
+        .collect();
     let (graph, region) = after(&before);
     let count = graph.scalars.len();
     let keep: Vec<u8> = (0..count)

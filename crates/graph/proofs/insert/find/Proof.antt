@@ -1,5 +1,5 @@
 -- `insert::find` meets its contract: what is left to search, from `node` to the end, gives the answer of the whole.
-use mathlib.Core.Path.{_≡_, refl, sym, ap, _∙_}
+use mathlib.Core.Path.{_≡_, sym, ap, _∙_}
 use mathlib.Core.Logic.{⊎-elim}
 use Prim.Native.Nat.{ℕ, min, _-_, _≤_}
 use native.Mathlib.Nat.{min-eq-left, min-eq-right, min-le-right}
