@@ -118,6 +118,22 @@ fn compare(
     ExitCode::SUCCESS
 }
 
+// Three calls of one builder on one side, for a count of their instructions.
+fn one(name: &str, nodes: &str, node: &str, side: &str) -> ExitCode {
+    let nodes = number(nodes) as usize;
+    if times::one(
+        twin().as_mut(),
+        name,
+        nodes,
+        node == "old",
+        side == "original",
+    ) {
+        ExitCode::SUCCESS
+    } else {
+        ExitCode::FAILURE
+    }
+}
+
 fn main() -> ExitCode {
     let args: Vec<String> = env::args().skip(1).collect();
     let args: Vec<&str> = args.iter().map(String::as_str).collect();
@@ -135,21 +151,7 @@ fn main() -> ExitCode {
             times::print(library().as_mut(), twin().as_mut());
             ExitCode::SUCCESS
         }
-        ["one", name, nodes, node, side] => {
-            let (is_old, is_original) = (*node == "old", *side == "original");
-            let known = times::one(
-                twin().as_mut(),
-                name,
-                number(nodes) as usize,
-                is_old,
-                is_original,
-            );
-            if known {
-                ExitCode::SUCCESS
-            } else {
-                ExitCode::FAILURE
-            }
-        }
+        ["one", name, nodes, node, side] => one(name, nodes, node, side),
         // The original on a graph filled from the region, against the graph that it has grown.
         ["self", rest @ ..] => run(Box::new(Original), None, true, rest),
         ["--program", path, rest @ ..] => run(Box::new(Program::new(path)), None, false, rest),

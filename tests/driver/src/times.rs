@@ -138,12 +138,32 @@ impl Work {
     }
 
     fn call(self) -> Call {
-        let bits = native::ScalarType::Bits(16).into();
-        let effect = |number, ty| Call::Effect { number, ty };
         match self {
-            Work::Effect(number) => effect(number as u64, native::ScalarType::Integer.into()),
-            Work::Leaf(number) => effect(number as u64, bits),
-            Work::Wide(number) => effect(number as u64, native::ScalarType::Bits(64).into()),
+            Work::Effect(_) | Work::Leaf(_) | Work::Wide(_) | Work::Divisor(_) => self.leaf(),
+            Work::Constant(_) | Work::Limit => self.constant(),
+            Work::Unary(id) => unary(native::ScalarType::Bits(16), 11, 0, id),
+            Work::Truncate(id) => unary(native::ScalarType::Bits(8), 13, 8, id),
+            Work::Binary(pair, id) => binary(pair.result().1, pair.operator().1, id, id + 1),
+            Work::Slice(id) | Work::Concat(id) | Work::WideConcat(id) | Work::UnsignedRange(id) => {
+                self.field(id as u64)
+            }
+            Work::IsBelow(id, limit) => binary(native::ScalarType::Bool, 32, id, limit),
+            Work::Guard(condition) => Call::AssumeGuard {
+                condition: condition as u64,
+                expected: 1,
+            },
+        }
+    }
+
+    // An effect of a type, or an input to divide by.
+    fn leaf(self) -> Call {
+        let effect = |number, ty: native::ScalarType| Call::Effect {
+            number: number as u64,
+            ty: ty.into(),
+        };
+        match self {
+            Work::Leaf(number) => effect(number, native::ScalarType::Bits(16)),
+            Work::Wide(number) => effect(number, native::ScalarType::Bits(64)),
             Work::Divisor(number) => Call::Input {
                 number: number as u64,
                 ty: native::ScalarType::Integer.into(),
@@ -152,38 +172,8 @@ impl Work {
                     max: DIVISOR,
                 }),
             },
-            Work::Constant(_) | Work::Limit => self.constant(),
-            Work::Unary(id) => Call::Unary {
-                ty: bits,
-                op: 11,
-                parameter: 0,
-                id: id as u64,
-            },
-            Work::Truncate(id) => Call::Unary {
-                ty: native::ScalarType::Bits(8).into(),
-                op: 13,
-                parameter: 8,
-                id: id as u64,
-            },
-            Work::Binary(pair, id) => Call::Binary {
-                ty: pair.result().1.into(),
-                op: pair.operator().1,
-                left: id as u64,
-                right: id as u64 + 1,
-            },
-            Work::Slice(id) | Work::Concat(id) | Work::WideConcat(id) | Work::UnsignedRange(id) => {
-                self.field(id as u64)
-            }
-            Work::IsBelow(id, limit) => Call::Binary {
-                ty: native::ScalarType::Bool.into(),
-                op: 32,
-                left: id as u64,
-                right: limit as u64,
-            },
-            Work::Guard(condition) => Call::AssumeGuard {
-                condition: condition as u64,
-                expected: 1,
-            },
+            Work::Effect(number) => effect(number, native::ScalarType::Integer),
+            _ => unreachable!("no leaf"),
         }
     }
 
@@ -224,6 +214,24 @@ impl Work {
                 high: 200,
             },
         }
+    }
+}
+
+fn unary(ty: native::ScalarType, op: u64, parameter: u64, id: usize) -> Call {
+    Call::Unary {
+        ty: ty.into(),
+        op,
+        parameter,
+        id: id as u64,
+    }
+}
+
+fn binary(ty: native::ScalarType, op: u64, left: usize, right: usize) -> Call {
+    Call::Binary {
+        ty: ty.into(),
+        op,
+        left: left as u64,
+        right: right as u64,
     }
 }
 
