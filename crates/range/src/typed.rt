@@ -13,14 +13,20 @@ use word::Word;
 pub fn mask(width: u16) -> Word
     ensures { λ r. ⌜ val r ≡ 2 ^ min width 128 - 1 ⌝ }
 {
-    let all = Word {
-        lo: u64::MAX,
-        hi: u64::MAX,
-    };
-    if width < 128 {
-        all.unbounded_shr((128 - width) as u32)
+    if 128 <= width {
+        return Word {
+            lo: u64::MAX,
+            hi: u64::MAX,
+        };
+    }
+    let ones = (1u64 << (width % 64)) - 1;
+    if width & 64 == 0 {
+        Word { lo: ones, hi: 0 }
     } else {
-        all
+        Word {
+            lo: u64::MAX,
+            hi: ones,
+        }
     }
 }
 

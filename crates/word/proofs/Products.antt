@@ -1,8 +1,13 @@
 -- Products of numbers in two digits, and where a product passes two halves. Assumes nothing.
 use mathlib.Core.Path.{_≡_, refl, sym, _∙_}
 use Prim.Native.Nat.{ℕ, _+_, _-_, _*_, _/_, _%_, _^_, _<_, _≤_}
-use native.Mathlib.Nat.{add-assoc, add-comm, add-left-comm, mul-assoc, mul-comm, mul-left-comm, mul-add, add-mul, div-add-mod', mul-le-mul, le-refl, le-trans, le-add-right, pos-of-ne-zero, mul-add-mod-self-right}
+use native.Mathlib.Nat.{zero-mul, add-assoc, add-comm, add-left-comm, mul-assoc, mul-comm, mul-left-comm, mul-add, add-mul, div-add-mod', mul-le-mul, le-refl, le-trans, le-add-right, pos-of-ne-zero, mul-add-mod-self-right}
+use mathlib.Core.Bool.{false}
+use mathlib.Core.Option.{some}
 use native.Mathlib.Omega.{arith}
+use lib.Dec.{ltb}
+use borrow.Author.Tests.{ltb-false}
+use Rattle.word.specs.Option.{only}
 use lib.Pow.{pow-add}
 use Rattle.word.specs.Value.{val}
 use Rattle.word.specs.declared.Word.{Word}
@@ -78,3 +83,10 @@ high-set w f = omega (arith, pos-of-ne-zero f)
 pub one-low : (a b high low : Word) → a .hi ≡ 0 → val high ≡ a .lo * b .hi → val low ≡ a .lo * b .lo → val high * 2 ^ 64 + val low ≡ val a * val b
 unfolding val
 one-low a b high low z e f = rw (e, f, low-only a z) (omega (arith, mul-add (a .lo) (b .hi * 2 ^ 64) (b .lo), mul-assoc (a .lo) (b .hi) (2 ^ 64)))
+
+-- a product by 0
+pub by-none : (m n : ℕ) → ltb 0 m ≡ false → some m ≡ only (ltb (m * n) (2 ^ 128)) (m * n)
+by-none m n h =
+    let l : m ≤ 0 = ltb-false 0 m h in
+    let e : m ≡ 0 = omega arith in
+    rw (e, zero-mul n)

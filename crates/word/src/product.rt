@@ -92,6 +92,13 @@ impl Word {
     pub fn checked_mul(self, rhs: Word) -> MaybeWord
         ensures { λ r. ⌜ numberOf r ≡ only (ltb (val self * val rhs) (2 ^ 128)) (val self * val rhs) ⌝ }
     {
+        // Three of the four corners of two ranges from 0 on are products by 0.
+        if self.is_zero() {
+            return MaybeWord::Some(self);
+        }
+        if rhs.is_zero() {
+            return MaybeWord::Some(rhs);
+        }
         let low = product_of_halves(self.lo, rhs.lo);
         if self.hi == 0 {
             let high = product_of_halves(self.lo, rhs.hi);

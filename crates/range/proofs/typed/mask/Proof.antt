@@ -1,30 +1,34 @@
--- `mask` meets its contract: 128 ones, shifted right.
-use Rattle.range.proofs.Types.{ones-shifted}
+-- `mask` meets its contract: ones in the low half, or in the high half above 64 of them.
+use Rattle.range.proofs.Types.{one-raised, low-ones, high-ones}
 use Rattle.word.specs.Value.{val}
-use native.Mathlib.Nat.{min-eq-right, le-of-lt}
-use mathlib.Core.Path.{_∙_}
+use Prim.Native.Nat.{ℕ, _%_, _≤_}
+use mathlib.Core.Path.{sym, subst, _∙_}
+use native.Mathlib.Nat.{min-eq-right, zero-add}
+use lib.Pow.{pow-pos}
 use borrow.Author.Needs.{needs}
 use Rattle.range.proofs.typed.mask.Statement.{statement}
 use Rattle.range.proofs.typed.mask.Tie as tie
 
-sub-unbounded-shr : tie.Need-sub-unbounded-shr
-sub-unbounded-shr c = search needs
-
-cast-unbounded-shr : tie.Need-cast-unbounded-shr
-cast-unbounded-shr c = search needs
-
-unbounded-shr-requires : tie.Need-unbounded-shr-requires
-unbounded-shr-requires c κs = search needs
-
 returns : tie.Need-returns
 unfolding val
-returns c = c .unbounded-shr .ensures ∙ ones-shifted 128 (c .before .before .args .width) (le-of-lt (c .before .if1 .taken))
+returns c = rw (min-eq-right (c .if1 .taken))
+
+cast-ones : tie.Need-cast-ones
+cast-ones c = search needs
+
+shl-ones : tie.Need-shl-ones
+shl-ones c = search needs
+
+sub-ones : tie.Need-sub-ones
+sub-ones c = subst (λ (n : ℕ). 1 ≤ n) (sym (one-raised (c .before .args .width))) (pow-pos (c .before .args .width % 64))
 
 returns-2 : tie.Need-returns-2
 unfolding val
-returns-2 c = rw (min-eq-right (c .if1 .left))
+returns-2 c = zero-add _ ∙ low-ones (c .before .before .args .width) (c .before .if1 .left) (c .if2 .taken)
+
+returns-3 : tie.Need-returns-3
+unfolding val
+returns-3 c = high-ones (c .before .before .args .width) (c .before .if1 .left) (c .if2 .left)
 
 pub mask-spec : {M : Type 1} → statement M
-mask-spec =
-    tie.close
-    (tie.spec sub-unbounded-shr cast-unbounded-shr unbounded-shr-requires returns returns-2)
+mask-spec = tie.close (tie.spec returns cast-ones shl-ones sub-ones returns-2 returns-3)
