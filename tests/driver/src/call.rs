@@ -132,6 +132,49 @@ pub enum Answer {
     Spoilt,
 }
 
+// A call of the library with its words at hand, as a program that is linked with it makes it.
+#[derive(Clone, Copy)]
+pub enum Ready {
+    Two(
+        unsafe extern "C" fn(*mut u64, usize, u64, u64) -> u64,
+        [u64; 2],
+    ),
+    Three(
+        unsafe extern "C" fn(*mut u64, usize, u64, u64, u64) -> u64,
+        [u64; 3],
+    ),
+    Four(
+        unsafe extern "C" fn(*mut u64, usize, u64, u64, u64, u64) -> u64,
+        [u64; 4],
+    ),
+    Five(
+        unsafe extern "C" fn(*mut u64, usize, u64, u64, u64, u64, u64) -> u64,
+        [u64; 5],
+    ),
+    Eight(
+        unsafe extern "C" fn(*mut u64, usize, u64, u64, u64, u64, u64, u64, u64, u64) -> u64,
+        [u64; 8],
+    ),
+}
+
+impl Ready {
+    // SAFETY: for a function that does not ask question 1, the caller made the region a graph. The slice is passed whole.
+    pub unsafe fn make(self, region: &mut [u64]) -> u64 {
+        let (g, len) = (region.as_mut_ptr(), region.len());
+        unsafe {
+            match self {
+                Ready::Two(call, [a, b]) => call(g, len, a, b),
+                Ready::Three(call, [a, b, c]) => call(g, len, a, b, c),
+                Ready::Four(call, [a, b, c, d]) => call(g, len, a, b, c, d),
+                Ready::Five(call, [a, b, c, d, e]) => call(g, len, a, b, c, d, e),
+                Ready::Eight(call, [a, b, c, d, e, f, h, i]) => {
+                    call(g, len, a, b, c, d, e, f, h, i)
+                }
+            }
+        }
+    }
+}
+
 // One side of the comparison.
 pub trait Side {
     // Answers a call on the region, and leaves the region as the call does.
@@ -139,6 +182,11 @@ pub trait Side {
 
     // A retain with the lent mapping, where the side has it.
     fn retain(&mut self, _: &mut [u64], _: &[u8], _: &mut [u64]) -> Option<Answer> {
+        None
+    }
+
+    // The call with its words at hand, where the side is the library and the call changes a region.
+    fn ready(&self, _: &Call) -> Option<Ready> {
         None
     }
 

@@ -1,5 +1,5 @@
 // The proved library's side, through the functions that it exports.
-use crate::call::{Answer, Call, Side};
+use crate::call::{Answer, Call, Ready, Side};
 use crate::words::{MARK, WORDS, halves, joined};
 
 // The functions that have a twin for a caller that knows the region to be a graph.
@@ -174,6 +174,9 @@ const MOST: usize = 4096;
 const PAST: usize = 16;
 
 fn answer_of(number: u64) -> Answer {
+    if number == DONE {
+        return Answer::Done;
+    }
     if number == WRONG_LENGTH {
         return Answer::WrongLength;
     }
@@ -258,60 +261,66 @@ fn evaluated(call: &Call) -> Option<Answer> {
 }
 
 impl Tier {
-    // SAFETY: the caller of the twins makes the region a graph. The slice is passed whole.
-    unsafe fn leaf(&self, region: &mut [u64], call: &Call) -> Option<u64> {
-        let (g, len) = (region.as_mut_ptr(), region.len());
+    fn leaf(&self, call: &Call) -> Option<Ready> {
         Some(match *call {
             Call::Constant { ty, value } => {
                 let [low, high] = halves(value);
-                unsafe { (self.constant)(g, len, ty.code, ty.width, low, high) }
+                Ready::Four(self.constant, [ty.code, ty.width, low, high])
             }
             Call::Input { number, ty, range } => {
                 // Any flag but 0 says that there is a range, and without one its words are not looked at.
                 let [a, b] = range.map_or([number; 2], |range| halves(range.min as u128));
                 let [c, d] = range.map_or([number; 2], |range| halves(range.max as u128));
                 let flag = range.map_or(0, |_| number.max(1));
-                unsafe { (self.input)(g, len, number, ty.code, ty.width, flag, a, b, c, d) }
+                let words = [number, ty.code, ty.width, flag, a, b, c, d];
+                Ready::Eight(self.input, words)
             }
-            Call::Effect { number, ty } => unsafe {
-                (self.effect)(g, len, number, ty.code, ty.width)
-            },
+            Call::Effect { number, ty } => Ready::Three(self.effect, [number, ty.code, ty.width]),
             _ => return None,
         })
     }
 
-    // SAFETY: as for the leaves.
-    unsafe fn builder(&self, region: &mut [u64], call: &Call) -> Option<u64> {
-        let (g, len) = (region.as_mut_ptr(), region.len());
+    fn builder(&self, call: &Call) -> Option<Ready> {
         Some(match *call {
             Call::Unary {
                 ty,
                 op,
                 parameter,
                 id,
-            } => unsafe { (self.unary)(g, len, ty.code, ty.width, op, parameter, id) },
+            } => Ready::Five(self.unary, [ty.code, ty.width, op, parameter, id]),
             Call::Binary {
                 ty,
                 op,
                 left,
                 right,
-            } => unsafe { (self.binary)(g, len, ty.code, ty.width, op, left, right) },
-            Call::Slice { id, offset, width } => unsafe { (self.slice)(g, len, id, offset, width) },
+            } => Ready::Five(self.binary, [ty.code, ty.width, op, left, right]),
+            Call::Slice { id, offset, width } => Ready::Three(self.slice, [id, offset, width]),
             Call::Concat {
                 high,
                 low,
                 low_width,
                 width,
-            } => unsafe { (self.concat)(g, len, high, low, low_width, width) },
+            } => Ready::Four(self.concat, [high, low, low_width, width]),
             Call::UnsignedRange { id, low, high } => {
                 let ([a, b], [c, d]) = (halves(low), halves(high));
-                unsafe { (self.unsigned_range)(g, len, id, a, b, c, d) }
+                Ready::Five(self.unsigned_range, [id, a, b, c, d])
             }
             _ => return None,
         })
     }
 
-    // SAFETY: as for the leaves.
+    // A call that changes the region.
+    fn ready(&self, call: &Call) -> Option<Ready> {
+        match *call {
+            Call::AssumeGuard {
+                condition,
+                expected,
+            } => Some(Ready::Two(self.assume_guard, [condition, expected])),
+            _ => self.leaf(call).or_else(|| self.builder(call)),
+        }
+    }
+
+    // SAFETY: the caller of the twins makes the region a graph. The slices are passed whole.
     unsafe fn retained(&self, region: &mut [u64], keep: &[u8], mapping: &mut [u64]) -> Answer {
         let (g, len) = (region.as_mut_ptr(), region.len());
         let (m, m_len) = (mapping.as_mut_ptr(), mapping.len());
@@ -322,16 +331,7 @@ impl Tier {
         }
     }
 
-    // SAFETY: as for the leaves.
-    unsafe fn assumed(&self, region: &mut [u64], condition: u64, expected: u64) -> Answer {
-        let (g, len) = (region.as_mut_ptr(), region.len());
-        match unsafe { (self.assume_guard)(g, len, condition, expected) } {
-            DONE => Answer::Done,
-            number => answer_of(number),
-        }
-    }
-
-    // SAFETY: as for the leaves.
+    // SAFETY: as for retain.
     unsafe fn read(&self, region: &[u64], call: &Call) -> Option<Answer> {
         let (g, len) = (region.as_ptr(), region.len());
         Some(match *call {
@@ -356,18 +356,12 @@ impl Tier {
         })
     }
 
-    // SAFETY: as for the leaves.
+    // SAFETY: as for retain.
     unsafe fn call(&self, region: &mut [u64], call: &Call) -> Answer {
-        let number =
-            unsafe { self.leaf(region, call) }.or_else(|| unsafe { self.builder(region, call) });
-        if let Some(number) = number {
-            return answer_of(number);
+        if let Some(ready) = self.ready(call) {
+            return answer_of(unsafe { ready.make(region) });
         }
         match *call {
-            Call::AssumeGuard {
-                condition,
-                expected,
-            } => unsafe { self.assumed(region, condition, expected) },
             Call::Matches {
                 op,
                 expected,
@@ -396,6 +390,10 @@ impl Side for Library {
         Some(unsafe { ASKING.retained(region, keep, mapping) })
     }
 
+    fn ready(&self, call: &Call) -> Option<Ready> {
+        ASKING.ready(call)
+    }
+
     fn takes(&self, _: &Call) -> bool {
         true
     }
@@ -413,6 +411,10 @@ impl Side for InGraph {
     fn retain(&mut self, region: &mut [u64], keep: &[u8], mapping: &mut [u64]) -> Option<Answer> {
         // SAFETY: the caller made the region a graph.
         Some(unsafe { IN_GRAPH.retained(region, keep, mapping) })
+    }
+
+    fn ready(&self, call: &Call) -> Option<Ready> {
+        IN_GRAPH.ready(call)
     }
 
     fn takes(&self, _: &Call) -> bool {

@@ -1,5 +1,7 @@
 // Compares the proved library with the original on random calls: the answers, and every word after every call.
 // usage: driver [--program PATH | self] [SEED [ROUNDS]]   or   driver times   or   driver one NAME NODES old|new original|library   or   driver vectors FOLDER
+#[cfg(library)]
+mod binding;
 mod builders;
 mod call;
 mod chains;
@@ -70,10 +72,10 @@ fn library() -> Box<dyn Side> {
     }
 }
 
-// The library's tier for a region that is known to be a graph.
+// The library's tier for a region that is known to be a graph, through the binding where it can be.
 fn twin() -> Box<dyn Side> {
     #[cfg(library)]
-    return Box::new(library::InGraph);
+    return Box::new(binding::Binding::new());
     #[cfg(not(library))]
     library()
 }
@@ -110,6 +112,8 @@ fn compare(
         return ExitCode::FAILURE;
     }
     report::print(&all);
+    #[cfg(library)]
+    println!("calls through the Rust binding: {}\n", binding::made());
     let missing = report::missing(&all);
     if rounds >= WHOLE && !missing.is_empty() {
         println!("NEVER MET: {}", missing.join("; "));

@@ -1,7 +1,7 @@
 // How long a call takes on each side, by the number of nodes: `effect`, the thinnest over `insert`, each builder, a
 // retain and a guard. The original is timed as it is, not the metered one. `one` makes the calls of one builder alone,
 // for a count of their instructions.
-use crate::call::{Call, Side};
+use crate::call::{Call, Ready, Side};
 use crate::native;
 use crate::original::apply;
 use crate::plain::{Binary, Graph, Range, ScalarType, Unary};
@@ -47,6 +47,22 @@ impl Pair {
         }
     }
 
+    // As the binding has them.
+    #[cfg(library)]
+    fn bound(self) -> (scalars::ScalarType, scalars::Binary) {
+        use scalars::Binary as b;
+        use scalars::ScalarType::{Bits, Bool, Integer};
+        match self {
+            Pair::Add => (Bits(16), b::Add),
+            Pair::Mul => (Bits(16), b::Mul),
+            Pair::Equal => (Bool, b::Equal),
+            Pair::DivideSigned => (Integer, b::DivideSigned),
+            Pair::RemainderSigned => (Integer, b::RemainderSigned),
+            Pair::DivideUnsigned => (Integer, b::DivideUnsigned),
+            Pair::RemainderUnsigned => (Integer, b::RemainderUnsigned),
+        }
+    }
+
     fn result(self) -> (ScalarType, native::ScalarType) {
         match self {
             Pair::Add | Pair::Mul => (Bits(16), native::ScalarType::Bits(16)),
@@ -73,6 +89,13 @@ enum Work {
     // Of 64 and 64 bits.
     WideConcat(usize),
     UnsignedRange(usize),
+    // An input of two bits, the constant 1 of two bits, an And of two nodes of two bits, a concat of two bits and so many
+    // more, and a slice: of these is the slowest call made.
+    Narrow(usize),
+    One,
+    Masked(usize, usize),
+    Above(usize, usize, u16),
+    Cut(usize, u16, u16),
     // A constant, whether a node is below another, and a guard on such a condition.
     Limit,
     IsBelow(usize, usize),
@@ -128,12 +151,47 @@ impl Work {
             Work::Concat(id) => Some(graph.concat(id, id + 1, 16, 32)),
             Work::WideConcat(id) => Some(graph.concat(id, id + 1, 64, 128)),
             Work::UnsignedRange(id) => graph.unsigned_range(id, 3, 200),
+            Work::Narrow(number) => Some(graph.input(number, Bits(2), None)),
+            Work::One => Some(graph.constant(Bits(2), 1)),
+            Work::Masked(id, mask) => graph.binary(Bits(2), Binary::And, id, mask),
+            Work::Above(high, low, width) => Some(graph.concat(high, low, width, width + 2)),
+            Work::Cut(id, offset, width) => Some(graph.slice(id, offset, width)),
             Work::Limit => Some(graph.constant(Bits(16), 200)),
             Work::IsBelow(id, limit) => graph.binary(Bool, Binary::LessUnsigned, id, limit),
             Work::Guard(condition) => {
                 graph.assume_guard(condition, true);
                 None
             }
+        }
+    }
+
+    // Through the Rust binding, whose methods have the original's shape.
+    #[cfg(library)]
+    fn bound(self, graph: &mut scalars::Graph) -> Option<usize> {
+        use scalars::ScalarType::{Bits, Integer};
+        match self {
+            Work::Effect(number) => Some(graph.effect(number, Integer)),
+            Work::Leaf(number) => Some(graph.effect(number, Bits(16))),
+            Work::Wide(number) => Some(graph.effect(number, Bits(64))),
+            Work::Divisor(number) => {
+                let range = scalars::Range {
+                    min: 1,
+                    max: DIVISOR,
+                };
+                Some(graph.input(number, Integer, Some(range)))
+            }
+            Work::Constant(id) => Some(graph.constant(Bits(16), 1000 + id as u128)),
+            Work::Unary(id) => graph.unary(Bits(16), scalars::Unary::BitNot, id),
+            Work::Truncate(id) => graph.unary(Bits(8), scalars::Unary::Truncate(8), id),
+            Work::Binary(pair, id) => {
+                let (ty, operator) = pair.bound();
+                graph.binary(ty, operator, id, id + 1)
+            }
+            Work::Slice(id) => Some(graph.slice(id, 4, 8)),
+            Work::Concat(id) => Some(graph.concat(id, id + 1, 16, 32)),
+            Work::WideConcat(id) => Some(graph.concat(id, id + 1, 64, 128)),
+            Work::UnsignedRange(id) => graph.unsigned_range(id, 3, 200),
+            _ => unreachable!("not timed through the binding"),
         }
     }
 
@@ -146,6 +204,9 @@ impl Work {
             Work::Binary(pair, id) => binary(pair.result().1, pair.operator().1, id, id + 1),
             Work::Slice(id) | Work::Concat(id) | Work::WideConcat(id) | Work::UnsignedRange(id) => {
                 self.field(id as u64)
+            }
+            Work::Narrow(_) | Work::One | Work::Masked(..) | Work::Above(..) | Work::Cut(..) => {
+                self.nested()
             }
             Work::IsBelow(id, limit) => binary(native::ScalarType::Bool, 32, id, limit),
             Work::Guard(condition) => Call::AssumeGuard {
@@ -174,6 +235,35 @@ impl Work {
             },
             Work::Effect(number) => effect(number, native::ScalarType::Integer),
             _ => unreachable!("no leaf"),
+        }
+    }
+
+    // A part of the slow calls.
+    fn nested(self) -> Call {
+        let two = native::ScalarType::Bits(2);
+        match self {
+            Work::Narrow(number) => Call::Input {
+                number: number as u64,
+                ty: two.into(),
+                range: None,
+            },
+            Work::One => Call::Constant {
+                ty: two.into(),
+                value: 1,
+            },
+            Work::Masked(id, mask) => binary(two, 23, id, mask),
+            Work::Above(high, low, width) => Call::Concat {
+                high: high as u64,
+                low: low as u64,
+                low_width: width.into(),
+                width: u64::from(width) + 2,
+            },
+            Work::Cut(id, offset, width) => Call::Slice {
+                id: id as u64,
+                offset: offset.into(),
+                width: width.into(),
+            },
+            _ => unreachable!("no part of them"),
         }
     }
 
@@ -258,26 +348,38 @@ fn work(graph: &mut Graph, works: &[Work]) {
     }
 }
 
-fn put(side: &mut dyn Side, region: &mut [u64], calls: &[Call]) {
+fn put(region: &mut [u64], calls: &[Ready]) {
     for call in calls {
-        black_box(side.call(region, &black_box(*call)));
+        // SAFETY: calls of the original and of the library made the region a graph.
+        black_box(unsafe { black_box(*call).make(region) });
     }
+}
+
+// The calls with their words at hand.
+fn ready(side: &dyn Side, works: &[Work]) -> Vec<Ready> {
+    works
+        .iter()
+        .map(|work| {
+            side.ready(&work.call())
+                .expect("the library makes this call")
+        })
+        .collect()
 }
 
 // On a graph, the calls one after another.
 fn old_times(tiers: &mut Tiers, before: &[Work], works: &[Work]) -> [f64; 3] {
     let (mut graph, mut region) = after(before);
-    let calls: Vec<Call> = works.iter().map(|work| work.call()).collect();
     let original = smallest(|| timed(works.len(), || work(&mut graph, works)));
-    let [twin, asking] = [&mut tiers.twin, &mut tiers.asking]
-        .map(|side| smallest(|| timed(calls.len(), || put(*side, &mut region, &calls))));
+    let [twin, asking] = [&tiers.twin, &tiers.asking].map(|side| {
+        let calls = ready(*side, works);
+        smallest(|| timed(calls.len(), || put(&mut region, &calls)))
+    });
     [original, twin, asking]
 }
 
 // On copies of a graph, the calls one after another.
 fn new_times(tiers: &mut Tiers, before: &[Work], works: &[Work]) -> [f64; 3] {
     let (graph, region) = after(before);
-    let calls: Vec<Call> = works.iter().map(|work| work.call()).collect();
     let all = COPIES * works.len();
     let original = smallest(|| {
         let mut graphs = vec![graph.clone(); COPIES];
@@ -288,12 +390,13 @@ fn new_times(tiers: &mut Tiers, before: &[Work], works: &[Work]) -> [f64; 3] {
             graphs.iter_mut().for_each(|graph| work(graph, works))
         })
     });
-    let [twin, asking] = [&mut tiers.twin, &mut tiers.asking].map(|side| {
+    let [twin, asking] = [&tiers.twin, &tiers.asking].map(|side| {
+        let calls = ready(*side, works);
         smallest(|| {
             let mut regions = vec![region.clone(); COPIES];
             timed(all, || {
                 for region in &mut regions {
-                    put(*side, region, &calls);
+                    put(region, &calls);
                 }
             })
         })
@@ -308,8 +411,8 @@ fn counted_work(graph: &mut Graph, works: &[Work]) {
 }
 
 #[inline(never)]
-fn counted_put(side: &mut dyn Side, region: &mut [u64], calls: &[Call]) {
-    put(side, region, calls);
+fn counted_put(region: &mut [u64], calls: &[Ready]) {
+    put(region, calls);
 }
 
 // The graph and the region that calls lead to.
@@ -326,7 +429,13 @@ fn after(works: &[Work]) -> (Graph, Vec<u64>) {
 }
 
 fn is_graph(side: &mut dyn Side, region: &mut [u64]) -> f64 {
-    smallest(|| timed(CALLS, || put(side, region, &[Call::IsGraph; CALLS])))
+    smallest(|| {
+        timed(CALLS, || {
+            for _ in 0..CALLS {
+                black_box(side.call(region, &black_box(Call::IsGraph)));
+            }
+        })
+    })
 }
 
 fn print_leaves(tiers: &mut Tiers) {
@@ -391,8 +500,7 @@ pub fn one(twin: &mut dyn Side, name: &str, nodes: usize, is_old: bool, is_origi
     if is_original {
         counted_work(&mut graph, &works);
     } else {
-        let calls: Vec<Call> = works.iter().map(|work| work.call()).collect();
-        counted_put(twin, &mut region, &calls);
+        counted_put(&mut region, &ready(twin, &works));
     }
     true
 }
@@ -460,6 +568,69 @@ fn print_guards(tiers: &mut Tiers) {
     }
 }
 
+// The levels of the concats that the slow calls cut.
+const LEVELS: usize = 62;
+
+// Inputs of two bits, each behind a mask of one, in a concat of concats.
+fn nested() -> Vec<Work> {
+    let mut works = vec![Work::One, Work::Narrow(0), Work::Masked(1, 0)];
+    let mut low = 2;
+    for level in 1..=LEVELS {
+        let input = works.len();
+        works.extend([Work::Narrow(level), Work::Masked(input, 0)]);
+        works.push(Work::Above(input + 1, low, 2 * level as u16));
+        low = input + 2;
+    }
+    works
+}
+
+// Slices of many concats, each of which is cut and joined anew: the slowest calls found.
+fn print_slow(tiers: &mut Tiers) {
+    println!("| slice of {LEVELS} concats | original | in graph | asking |");
+    println!("|---|---|---|---|");
+    let before = nested();
+    let last = before.len() - 1;
+    for (offset, width) in [(0, 125), (1, 125), (63, 63)] {
+        let [original, twin, asking] = new_times(tiers, &before, &[Work::Cut(last, offset, width)]);
+        println!("| {width} bits from {offset} | {original:.0} | {twin:.0} | {asking:.0} |");
+    }
+}
+
+#[cfg(library)]
+fn bound_work(graph: &mut scalars::Graph, works: &[Work]) {
+    for work in works {
+        black_box(black_box(*work).bound(graph));
+    }
+}
+
+// Each builder through the binding beside the exported call, on 16 nodes.
+#[cfg(library)]
+fn print_binding(tiers: &mut Tiers) {
+    println!("| builder, through the binding | node | exported call | binding |");
+    println!("|---|---|---|---|");
+    for (name, leaf, builder) in BUILDERS {
+        let (leaves, full) = graphs(leaf, builder, BUILDER_NODES[0]);
+        let works: Vec<Work> = (0..CALLS).map(|turn| builder(turn % 3)).collect();
+        let [_, exported, _] = old_times(tiers, &full, &works);
+        let mut graph = scalars::Graph::default();
+        bound_work(&mut graph, &full);
+        let bound = smallest(|| timed(works.len(), || bound_work(&mut graph, &works)));
+        println!("| {name} | old | {exported:.0} | {bound:.0} |");
+        let [_, exported, _] = new_times(tiers, &leaves, &works[..3]);
+        let mut before = scalars::Graph::default();
+        bound_work(&mut before, &leaves);
+        let bound = smallest(|| {
+            let mut graphs = vec![before.clone(); COPIES];
+            timed(COPIES * 3, || {
+                graphs
+                    .iter_mut()
+                    .for_each(|graph| bound_work(graph, &works[..3]))
+            })
+        });
+        println!("| {name} | new | {exported:.0} | {bound:.0} |");
+    }
+}
+
 pub fn print(asking: &mut dyn Side, twin: &mut dyn Side) {
     let mut tiers = Tiers { asking, twin };
     println!(
@@ -475,4 +646,11 @@ pub fn print(asking: &mut dyn Side, twin: &mut dyn Side) {
     print_retains(&mut tiers);
     println!();
     print_guards(&mut tiers);
+    println!();
+    print_slow(&mut tiers);
+    #[cfg(library)]
+    {
+        println!();
+        print_binding(&mut tiers);
+    }
 }
