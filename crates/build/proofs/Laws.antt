@@ -22,7 +22,10 @@ use Rattle.graph.specs.declared.Built.the-variants as built
 use Rattle.graph.proofs.Built.{the-type}
 use Rattle.build.specs.declared.step.MaskedNode.{MaskedNode}
 use Rattle.build.specs.Step.{maskedProg}
-use Rattle.build.specs.Build.{Call, binary, rangeProg, byConstant, Out, out, Prog, give, add, call, tries, tail, answer, constantThen, onId, onOut, onNothing, onNone, exec, run, build, step}
+use Rattle.plan.specs.Plan.{isStop}
+use Rattle.plan.specs.OneOperand.{modularPlan}
+use Rattle.plan.proofs.Laws.{is-stop}
+use Rattle.build.specs.Build.{Call, modular, binary, rangeProg, byConstant, Out, out, Prog, give, add, call, tries, tail, answer, constantThen, onId, onOut, onNothing, onNone, exec, run, build, step}
 
 -- the units of an answer
 abbrev pub left : Out → ℕ
@@ -178,6 +181,19 @@ onOut-tail (out a u g) = onId-tail a u g
 -- a builder that comes to None has spent a unit
 pub none-falls : (c : Call) (u : ℕ) (g : List ℕ) {v : ℕ} {h : List ℕ} → out nothing v h ≡ build c u g → v < u
 none-falls c u g e = none-falls-then c answer u g (e ∙ sym (onOut-tail (build c u g)))
+
+-- ---- a truncation that is tried
+
+-- without a unit
+pub try-none : (v w u : ℕ) (k : List ℕ → Prog) (g : List ℕ) → u ≡ 0 → exec build (tries (tail (modular v w)) k) u g ≡ out units 0 g
+try-none v w u k g e = rw (build-none (modular v w) u g e)
+
+-- whose plan is None: the unit is spent
+pub try-stop : (v w u : ℕ) (k : List ℕ → Prog) (g : List ℕ) → (u ≡ 0 → ⊥) → isStop (modularPlan g v w) ≡ true
+    → exec build (tries (tail (modular v w)) k) u g ≡ exec build (k g) (u - 1) g
+try-stop v w u k g e s = rw (build-step (modular v w) u g e, is-stop (modularPlan g v w) s)
+
+-- ---- what an answer's tag tells
 
 -- an answer that is no id ends a program: what the `else` of `let Built::Id(..) = .. else` knows
 pub onId-stop : (b : Built) (u : ℕ) (g : List ℕ) (k : ℕ → ℕ → List ℕ → Out) → OneOf (1 ∷ 2 ∷ 3 ∷ []) (tagOf the-type b) → onId (builtOf b) u g k ≡ out (builtOf b) u g

@@ -22,6 +22,7 @@ use graph::Built;
 use graph::NodeId;
 use graph::leaf::constant;
 use plan::Rest;
+use plan::one_operand::has_modular_plan;
 use range::ScalarType;
 use word::Word;
 
@@ -145,17 +146,26 @@ pub fn concat(
     perform(g, rest, next)
 }
 
-// A truncation that is tried; after None the rest of the builder follows.
+// A truncation that is tried; after None the rest of the builder follows. Most often its plan is None: then modular, which would cost a unit and answer it, need not be called.
 fn try_modular(g: &mut [u64], budget: Budget, value: NodeId, width: u16, rest: Rest) -> Done
     requires { ⌜ length (now g) ≡ REGION ⌝ }
     ensures { λ r. ⌜ out (builtOf (r .built)) (r .budget .units) (now (g .exit)) ≡ exec build (tries (attemptProg (plan.modular (value .0) width)) (restProg rest)) (budget .units) (now (g .entry)) ⌝ }
 {
-    let tried = modular(g, budget, value, width);
-    let built = tried.built;
-    let Built::None = built else {
-        return tried;
+    if budget.units == 0 {
+        return spent();
+    }
+    let mut left = Budget {
+        units: budget.units - 1,
     };
-    go_on(g, tried.budget, rest)
+    if has_modular_plan(g, value, width) {
+        let tried = modular(g, budget, value, width);
+        let built = tried.built;
+        let Built::None = built else {
+            return tried;
+        };
+        left = tried.budget;
+    }
+    go_on(g, left, rest)
 }
 
 // An operation on masked bits that is tried; after None the rest of the builder follows.

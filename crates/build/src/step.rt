@@ -34,7 +34,7 @@ use range::ScalarType;
 use word::Word;
 
 // What a builder starts from: its arguments, or where it goes on after a fold that came to None.
-pub enum Start {
+pub(crate) enum Start {
     Identity(ScalarType, NodeId),
     Unary(ScalarType, NodeId, Unary),
     Modular(u16, NodeId),
@@ -45,7 +45,7 @@ pub enum Start {
 }
 
 // A masked operation whose mask is a node.
-pub struct MaskedNode {
+pub(crate) struct MaskedNode {
     pub base: NodeId,
     pub mask: NodeId,
     pub literal: Word,
@@ -55,7 +55,7 @@ pub struct MaskedNode {
 }
 
 // What is left of a builder's work: its answer, or calls of builders.
-pub enum Next {
+pub(crate) enum Next {
     Answer(Built),
     Identity(NodeId, ScalarType),
     Unary(NodeId, ScalarType, Unary),
@@ -178,7 +178,7 @@ fn begin_masked(g: &mut [u64], fold: Masked, rest: Rest) -> Next
 }
 
 // What is left of a builder's work.
-pub fn step(g: &mut [u64], start: Start) -> Next
+pub(crate) fn step(g: &mut [u64], start: Start) -> Next
     requires { ⌜ length (now g) ≡ REGION ⌝ }
     ensures { λ r. ⌜ Leaves r (now (g .exit)) (startFirst start (now (g .entry))) (now (g .entry)) ⌝ }
 {

@@ -80,7 +80,7 @@ fn are_apart(g: &[u64], at: usize, first: u64) -> bool
 // Past nodes with another first field, four at a time: the search from there on has the same answer.
 fn pass_over(g: &[u64], from: u64, end: u64, words: &[u64; SIZE]) -> u64
     requires { ⌜ (length (now g) ≡ REGION) × (end ≤ LIMIT) × (length (now words) ≡ WORDS) ⌝ }
-    ensures { λ r. ⌜ lowest (sameKey (now (g .entry)) (now (words .entry))) r (end - r) ≡ lowest (sameKey (now (g .entry)) (now (words .entry))) from (end - from) ⌝ }
+    ensures { λ r. ⌜ (from ≤ r) × (lowest (sameKey (now (g .entry)) (now (words .entry))) r (end - r) ≡ lowest (sameKey (now (g .entry)) (now (words .entry))) from (end - from)) ⌝ }
 {
     let first = words[X];
     let last = if 3 < end { end - 3 } else { 0 };
@@ -105,10 +105,14 @@ fn find(g: &[u64], from: u64, words: &[u64; SIZE]) -> Found
     let mut node = pass_over(g, from, end, words);
     while node < end {
         let at = (FIRST + WORDS * node) as usize;
-        if same_key(g, at, words) {
-            return Found::At(node);
+        if g[at + X] == words[X] {
+            if same_key(g, at, words) {
+                return Found::At(node);
+            }
+            node += 1;
+        } else {
+            node = pass_over(g, node + 1, end, words);
         }
-        node += 1;
     }
     Found::Nothing
 }

@@ -1,4 +1,5 @@
 -- What a builder does next: a plan, or first a fold that may come to nothing.
+use mathlib.Core.Bool.{Bool, true, false}
 use mathlib.Core.Option.{Option, none, some}
 use Prim.Native.Nat.{ℕ}
 use Rattle.word.specs.Value.{val}
@@ -45,6 +46,23 @@ pub data Plan : Type 0 where
   truncated : ℕ → Binary → ℕ → ℕ → Plan
   -- the low node from the offset up at a width, the high node's low bits at another, then both as one of the last width
   splitConcat : ℕ → ℕ → ℕ → ℕ → ℕ → ℕ → Plan
+
+-- is it None?
+abbrev pub isStop : Plan → Bool
+isStop (give n) = false
+isStop stop = true
+isStop (constant t v) = false
+isStop (add t r o) = false
+isStop (identity t n) = false
+isStop (unary t o n) = false
+isStop (binary t o l r) = false
+isStop (slice n o w) = false
+isStop (sliceIdentity n o w t) = false
+isStop (sliceShift n w t v) = false
+isStop (constantBinary s v t o n) = false
+isStop (andOr t n m v) = false
+isStop (truncated w o l r) = false
+isStop (splitConcat l o v h u w) = false
 
 -- a fold that may come to None: modular of a node at a width, or a masked operation
 pub data Attempt : Type 0 where

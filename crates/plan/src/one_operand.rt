@@ -1,11 +1,12 @@
 // The plans of identity, unary and modular.
+ghost use mathlib.Core.Bool.{not};
 ghost use mathlib.Core.Path.{_≡_};
 ghost use lib.ListN.{length};
 ghost use Rattle.range.specs.Interval.{intervalOf};
 ghost use Rattle.word.specs.Value.{numberOf};
 ghost use Rattle.graph.specs.Layout.{REGION};
 ghost use Rattle.graph.specs.Node.{opOf};
-ghost use Rattle.plan.specs.Plan.{planOf, firstOf, constantOr};
+ghost use Rattle.plan.specs.Plan.{planOf, firstOf, constantOr, isStop};
 ghost use Rattle.fold.specs.Range.{derivedOf};
 ghost use Rattle.plan.specs.OneOperand.{viewPlan, identityPlan, isReduction, isView, addOr, unaryPlan, unaryOpen, unaryFirst, viewAt, viewOf, isWide, truncatedPlan, modularPlan};
 use crate::Attempt;
@@ -246,4 +247,16 @@ pub fn modular_plan(g: &[u64], value: NodeId, width: u16) -> Plan
             }
         }
     }
+}
+
+// Does modular come to more than None?
+pub fn has_modular_plan(g: &[u64], value: NodeId, width: u16) -> bool
+    requires { ⌜ length (now g) ≡ REGION ⌝ }
+    ensures { λ r. ⌜ r ≡ not (isStop (modularPlan (now (g .entry)) (value .0) width)) ⌝ }
+{
+    let plan = modular_plan(g, value, width);
+    let Plan::None = plan else {
+        return true;
+    };
+    false
 }

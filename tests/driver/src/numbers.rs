@@ -254,10 +254,13 @@ impl Rounds {
 
     fn values(&mut self) -> Outcome {
         self.comparison.start(VALUES, &[]);
-        for _ in 0..EVALUATIONS {
+        for turn in 0..EVALUATIONS {
             let call = self.numbers.evaluation();
+            // Every other one through the binding.
+            self.comparison.is_twin = turn % 2 == 1;
             self.comparison.call(&mut [], &call)?;
         }
+        self.comparison.is_twin = false;
         Ok(())
     }
 

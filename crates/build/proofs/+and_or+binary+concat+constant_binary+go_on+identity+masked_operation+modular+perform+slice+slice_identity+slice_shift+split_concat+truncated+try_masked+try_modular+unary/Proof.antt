@@ -1,11 +1,17 @@
 -- The builders and what they call meet their contracts: one cycle of calls. The measure is eight times the units left, and more where a function calls on before it spends one.
-use mathlib.Core.Path.{_∙_}
+use mathlib.Core.Path.{sym, ap, _∙_}
+use mathlib.Core.Logic.{⊎-elim}
 use Prim.Native.Nat.{ℕ, _<_, _+_, _*_}
 use native.Mathlib.Omega.{arith}
+use lib.ListN.{length}
 use borrow.Author.Needs.{needs}
+use borrow.Author.Tests.{not-false}
 use borrow.Fn.Kinds.{In}
 use borrow.Fn.PlainCycle.{Measures, is, falls, and}
-use Rattle.build.proofs.Laws.{build-none, build-step, units-fall, none-falls, masked-falls, onOut-tail, onId-stop, onNothing-stop, constant-inserted}
+use Rattle.build.specs.Build.{exec, build}
+use Rattle.build.specs.Step.{restProg}
+use Rattle.build.specs.declared.Budget.{Budget}
+use Rattle.build.proofs.Laws.{build-none, build-step, try-none, try-stop, units-fall, none-falls, masked-falls, onOut-tail, onId-stop, onNothing-stop, constant-inserted}
 use Rattle.build.proofs.and_or.Reads as and-or
 use Rattle.build.proofs.and_or.Kinds as and-or-kinds
 use Rattle.build.proofs.+and_or+binary+concat+constant_binary+go_on+identity+masked_operation+modular+perform+slice+slice_identity+slice_shift+split_concat+truncated+try_masked+try_modular+unary.Lts-and_or as and-or-lts
@@ -58,6 +64,7 @@ use Rattle.build.proofs.unary.Reads as unary
 use Rattle.build.proofs.unary.Kinds as unary-kinds
 use Rattle.build.proofs.+and_or+binary+concat+constant_binary+go_on+identity+masked_operation+modular+perform+slice+slice_identity+slice_shift+split_concat+truncated+try_masked+try_modular+unary.Lts-unary as unary-lts
 use Rattle.build.proofs.spent.Reads as spent-reads
+use Rattle.plan.proofs.one_operand.has_modular_plan.Reads as has-modular-plan-reads
 use Rattle.build.proofs.step.step.Reads as step-reads
 use Rattle.graph.proofs.leaf.constant.Reads as constant-reads
 use Rattle.build.proofs.+and_or+binary+concat+constant_binary+go_on+identity+masked_operation+modular+perform+slice+slice_identity+slice_shift+split_concat+truncated+try_masked+try_modular+unary.{
@@ -266,7 +273,7 @@ abbrev try-masked-env : ℕ → try-masked-lts.Claims
 try-masked-env t = (masked-operation-below t, masked-operation.Post, go-on-below t, go-on.Post)
 
 abbrev try-modular-env : ℕ → try-modular-lts.Claims
-try-modular-env t = (modular-below t, modular.Post, go-on-below t, go-on.Post)
+try-modular-env t = (spent-reads.Asked, spent-reads.Learnt, has-modular-plan-reads.Asked, has-modular-plan-reads.Learnt, modular-below t, modular.Post, go-on-below t, go-on.Post)
 
 abbrev unary-env : ℕ → unary-lts.Claims
 unary-env t = (spent-reads.Asked, spent-reads.Learnt, step-reads.Asked, step-reads.Learnt, perform-below t, perform.Post)
@@ -718,26 +725,53 @@ try-masked-same-length-2 t c = omega (arith, c .before .before .before .before .
 try-masked-returns-2 : (t : ℕ) → try-masked-lts.Need-returns-2 (try-masked-env t) (try-masked-at t) try-masked.Post
 try-masked-returns-2 t c = rw (← c .before .before .before .before .before .before .before .before .masked-operation .ensures, c .before .before .before .before .enum-told .given .1) (c .before .before .go-on .ensures)
 
+try-modular-spent-requires : (t : ℕ) → try-modular-lts.Need-spent-requires (try-modular-env t) (try-modular-at t) try-modular.Post
+try-modular-spent-requires t c κs = omega (arith, c .before .before .before .pre, c .if1 .taken)
+
+try-modular-returns : (t : ℕ) → try-modular-lts.Need-returns (try-modular-env t) (try-modular-at t) try-modular.Post
+try-modular-returns t c = rw (try-none _ _ _ _ _ (c .before .if1 .taken), c .spent .ensures .0, c .spent .ensures .1)
+
+try-modular-sub-t10 : (t : ℕ) → try-modular-lts.Need-sub-t10 (try-modular-env t) (try-modular-at t) try-modular.Post
+try-modular-sub-t10 t c = omega (arith, c .before .if1 .left)
+
+try-modular-has-modular-plan-requires : (t : ℕ) → try-modular-lts.Need-has-modular-plan-requires (try-modular-env t) (try-modular-at t) try-modular.Post
+try-modular-has-modular-plan-requires t c κs = omega (arith, c .before .before .before .before .before .pre)
+
 try-modular-modular-requires : (t : ℕ) → try-modular-lts.Need-modular-requires (try-modular-env t) (try-modular-at t) try-modular.Post
-try-modular-modular-requires t c κs = omega (arith, c .before .before .pre)
+try-modular-modular-requires t c κs = omega (arith, c .before .before .before .before .before .before .before .before .pre)
 
 try-modular-enum-told : (t : ℕ) → try-modular-lts.Need-enum-told (try-modular-env t) (try-modular-at t) try-modular.Post
 try-modular-enum-told t c = search needs
 
 try-modular-same-length : (t : ℕ) → try-modular-lts.Need-same-length (try-modular-env t) (try-modular-at t) try-modular.Post
-try-modular-same-length t c = omega (arith, c .before .before .before .before .before .before .pre, c .before .before .before .modular .kept .0)
-
-try-modular-returns : (t : ℕ) → try-modular-lts.Need-returns (try-modular-env t) (try-modular-at t) try-modular.Post
-try-modular-returns t c = rw (onOut-tail, ← c .before .before .before .modular .ensures, onNothing-stop _ _ _ _ (c .match .keys2))
-
-try-modular-go-on-requires : (t : ℕ) → try-modular-lts.Need-go-on-requires (try-modular-env t) (try-modular-at t) try-modular.Post
-try-modular-go-on-requires t c κs = omega (arith, c .before .before .before .before .before .before .before .before .pre, none-falls _ _ _ (rw (c .before .enum-told .given .1) at (c .before .before .before .before .before .modular .ensures)), c .before .before .before .before .before .modular .kept .0)
-
-try-modular-same-length-2 : (t : ℕ) → try-modular-lts.Need-same-length-2 (try-modular-env t) (try-modular-at t) try-modular.Post
-try-modular-same-length-2 t c = omega (arith, c .before .before .before .before .before .before .before .before .before .before .before .pre, c .before .before .before .before .before .before .before .before .modular .kept .0, c .before .before .go-on .kept .0)
+try-modular-same-length t c = omega (arith, c .before .before .before .before .before .before .before .before .before .before .before .before .pre, c .before .before .before .modular .kept .0)
 
 try-modular-returns-2 : (t : ℕ) → try-modular-lts.Need-returns-2 (try-modular-env t) (try-modular-at t) try-modular.Post
-try-modular-returns-2 t c = rw (onOut-tail, ← c .before .before .before .before .before .before .before .before .modular .ensures, c .before .before .before .before .enum-told .given .1) (c .before .before .go-on .ensures)
+try-modular-returns-2 t c = rw (onOut-tail, ← c .before .before .before .modular .ensures, onNothing-stop _ _ _ _ (c .match .keys2))
+
+try-modular-go-on-requires : (t : ℕ) → try-modular-lts.Need-go-on-requires (try-modular-env t) (try-modular-at t) try-modular.Post
+try-modular-go-on-requires t c κs =
+    ⊎-elim
+    (λ w. omega (arith, c .before .before .before .before .before .before .before .before .pre, none-falls _ _ _ (rw (w .6 .given .1) at (w .2 .ensures)), w .2 .kept .0, ap length (w .8), ap (λ (b : Budget). b .units) (w .9)))
+    (λ w. omega (arith, c .before .before .before .before .before .before .before .before .pre, c .before .before .before .before .before .if1 .left, ap length (w .1), ap (λ (b : Budget). b .units) (w .2)))
+    (c .before .if2 .came)
+
+try-modular-same-length-2 : (t : ℕ) → try-modular-lts.Need-same-length-2 (try-modular-env t) (try-modular-at t) try-modular.Post
+try-modular-same-length-2 t c =
+    ⊎-elim
+    (λ w. omega (arith, c .before .before .before .before .before .before .before .before .before .before .before .pre, w .2 .kept .0, ap length (w .8), c .before .before .go-on .kept .0))
+    (λ w. omega (arith, c .before .before .before .before .before .before .before .before .before .before .before .pre, ap length (w .1), c .before .before .go-on .kept .0))
+    (c .before .before .before .before .if2 .came)
+
+try-modular-returns-3 : (t : ℕ) → try-modular-lts.Need-returns-3 (try-modular-env t) (try-modular-at t) try-modular.Post
+try-modular-returns-3 t c =
+    let a = c .before .before .before .before .before .before .before .before .before .before .before .args in
+    let r = a .rest in
+    ⊎-elim
+    (λ w. c .before .before .go-on .ensures ∙ (λ i. exec build (restProg r (w .8 i)) (w .9 i .units) (w .8 i)) ∙ rw (onOut-tail, ← w .2 .ensures, w .6 .given .1))
+    (λ w. c .before .before .go-on .ensures ∙ (λ i. exec build (restProg r (w .1 i)) (w .2 i .units) (w .1 i))
+    ∙ sym (try-stop (a .value .0) (a .width) (a .budget .units) (restProg r) (a .g .now) (c .before .before .before .before .before .before .before .before .if1 .left) (not-false _ (sym (c .before .before .before .before .before .has-modular-plan .ensures) ∙ w .0 .left))))
+    (c .before .before .before .before .if2 .came)
 
 unary-spent-requires : (t : ℕ) → unary-lts.Need-spent-requires (unary-env t) (unary-at t) unary.Post
 unary-spent-requires t c κs = omega (arith, c .before .before .before .pre, c .if1 .taken)
@@ -796,5 +830,5 @@ pub +and-or+binary+concat+constant-binary+go-on+identity+masked-operation+modula
     (λ t. split-concat-lts.spec (split-concat-env t) (split-concat-at t) split-concat.Post (split-concat-slice-requires t) (split-concat-enum-known-built t) (split-concat-same-length t) (split-concat-returns t) (split-concat-slice-requires-2 t) (split-concat-enum-known-other t) (split-concat-same-length-2 t) (split-concat-returns-2 t) (split-concat-concat-requires t) (split-concat-same-length-3 t) (split-concat-returns-3 t))
     (λ t. truncated-lts.spec (truncated-env t) (truncated-at t) truncated.Post (truncated-unary-requires t) (truncated-enum-known-built t) (truncated-same-length t) (truncated-returns t) (truncated-unary-requires-2 t) (truncated-enum-known-other t) (truncated-same-length-2 t) (truncated-returns-2 t) (truncated-binary-requires t) (truncated-same-length-3 t) (truncated-returns-3 t))
     (λ t. try-masked-lts.spec (try-masked-env t) (try-masked-at t) try-masked.Post (try-masked-masked-operation-requires t) (try-masked-enum-told t) (try-masked-same-length t) (try-masked-returns t) (try-masked-go-on-requires t) (try-masked-same-length-2 t) (try-masked-returns-2 t))
-    (λ t. try-modular-lts.spec (try-modular-env t) (try-modular-at t) try-modular.Post (try-modular-modular-requires t) (try-modular-enum-told t) (try-modular-same-length t) (try-modular-returns t) (try-modular-go-on-requires t) (try-modular-same-length-2 t) (try-modular-returns-2 t))
+    (λ t. try-modular-lts.spec (try-modular-env t) (try-modular-at t) try-modular.Post (try-modular-spent-requires t) (try-modular-returns t) (try-modular-sub-t10 t) (try-modular-has-modular-plan-requires t) (try-modular-modular-requires t) (try-modular-enum-told t) (try-modular-same-length t) (try-modular-returns-2 t) (try-modular-go-on-requires t) (try-modular-same-length-2 t) (try-modular-returns-3 t))
     λ t. unary-lts.spec (unary-env t) (unary-at t) unary.Post (unary-spent-requires t) (unary-returns t) (unary-step-requires t) (unary-sub-t12 t) (unary-perform-requires t) (unary-same-length t) (unary-returns-2 t)

@@ -2,6 +2,7 @@
 use mathlib.Core.Path.{_≡_, refl, sym, _∙_}
 use mathlib.Core.Logic.{⊎-elim}
 use Prim.Native.Nat.{_-_, _≤_}
+use native.Mathlib.Nat.{le-refl}
 use native.Mathlib.Omega.{arith}
 use borrow.Author.Needs.{needs}
 use borrow.Author.Tests.{not-false}
@@ -12,7 +13,7 @@ use Rattle.graph.proofs.insert.pass_over.Tie as tie
 
 abbrev Inv-loop : tie.InvT-loop
 Inv-loop g from end words first last node₀ node =
-    (last ≤ end - 3) × (lowest (sameKey g words) node (end - node) ≡ lowest (sameKey g words) from (end - from))
+    (from ≤ node) × (last ≤ end - 3) × (lowest (sameKey g words) node (end - node) ≡ lowest (sameKey g words) from (end - from))
 
 abbrev μ-loop : tie.MeasureT-loop
 μ-loop g from end words first last node₀ node = last - node
@@ -24,7 +25,7 @@ sub-last : tie.Need-sub-last Inv-loop μ-loop
 sub-last c = search needs
 
 loop-holds : tie.Need-loop-holds Inv-loop μ-loop
-loop-holds c = (⊎-elim (λ w. omega (arith, w .1)) (λ w. omega (arith, w .1)) (c .if1 .came), refl)
+loop-holds c = (le-refl _, ⊎-elim (λ w. omega (arith, w .1)) (λ w. omega (arith, w .1)) (c .if1 .came), refl)
 
 mul-at : tie.Need-mul-at Inv-loop μ-loop
 mul-at c = search needs
@@ -36,7 +37,7 @@ are-apart-requires : tie.Need-are-apart-requires Inv-loop μ-loop
 are-apart-requires c κs = search needs
 
 returns : tie.Need-returns Inv-loop μ-loop
-returns c = c .before .before .before .loop .inv .1
+returns c = (c .before .before .before .loop .inv .0, c .before .before .before .loop .inv .2)
 
 add-node : tie.Need-add-node Inv-loop μ-loop
 add-node c = search needs
@@ -48,12 +49,12 @@ loop-again : tie.Need-loop-again Inv-loop μ-loop
 loop-again c =
     let a = c .before .before .before .before .before .before .before .args in
     let l = c .before .before .before .loop in
-    let past = lowest-past (a .g .now) (a .words .now) (a .end) (omega (arith, c .before .before .before .before .before .before .before .pre .2)) 4 (l .node) (omega (arith, l .inv .0, c .before .before .loop-test .taken))
+    let past = lowest-past (a .g .now) (a .words .now) (a .end) (omega (arith, c .before .before .before .before .before .before .before .pre .2)) 4 (l .node) (omega (arith, l .inv .1, c .before .before .loop-test .taken))
     (sym (c .before .are-apart .ensures) ∙ not-false _ (c .if2 .left)) in
-    (l .inv .0, sym past ∙ l .inv .1)
+    (omega (arith, l .inv .0), l .inv .1, sym past ∙ l .inv .2)
 
 returns-2 : tie.Need-returns-2 Inv-loop μ-loop
-returns-2 c = c .before .loop .inv .1
+returns-2 c = (c .before .loop .inv .0, c .before .loop .inv .2)
 
 pub pass-over-spec : {M : Type 1} → statement M
 pass-over-spec =
