@@ -34,31 +34,20 @@ impl Body<'_> {
         self.take(8)?.try_into().ok()
     }
 
+    fn code(&mut self) -> Option<u64> {
+        self.take(1)?.try_into().ok()
+    }
+
     fn ty(&mut self) -> Option<ScalarType> {
-        match (self.small(1)?, self.small(1)?) {
-            (0, 0) => Some(ScalarType::Bool),
-            (1, width) => Some(ScalarType::Bits(width)),
-            (2, 0) => Some(ScalarType::Integer),
-            _ => None,
-        }
+        ScalarType::from_code(self.code()?, self.code()?)
     }
 
     fn unary(&mut self) -> Option<Unary> {
-        match (self.small(1)?, self.small(1)?) {
-            (10, 0) => Some(Unary::BoolNot),
-            (11, 0) => Some(Unary::BitNot),
-            (12, 0) => Some(Unary::Negate),
-            (13, width) => Some(Unary::Truncate(width)),
-            (14, width) => Some(Unary::SignExtend(width)),
-            (15, width) => Some(Unary::LeadingZeros(width)),
-            (16, width) => Some(Unary::TrailingZeros(width)),
-            _ => None,
-        }
+        Unary::from_code(self.code()?, self.code()?)
     }
 
     fn binary(&mut self) -> Option<Binary> {
-        let place = self.small(1)?.checked_sub(20)?;
-        BINARIES.get(usize::from(place)).copied()
+        Binary::from_code(self.code()?)
     }
 
     fn range(&mut self) -> Option<Option<Range>> {
@@ -80,28 +69,6 @@ impl Body<'_> {
         }
     }
 }
-
-const BINARIES: [Binary; 19] = [
-    Binary::Add,
-    Binary::Sub,
-    Binary::Mul,
-    Binary::And,
-    Binary::Or,
-    Binary::Xor,
-    Binary::ShiftLeft,
-    Binary::ShiftRight,
-    Binary::ArithmeticShiftRight,
-    Binary::Equal,
-    Binary::NotEqual,
-    Binary::LessSigned,
-    Binary::LessUnsigned,
-    Binary::LessEqualSigned,
-    Binary::LessEqualUnsigned,
-    Binary::DivideSigned,
-    Binary::RemainderSigned,
-    Binary::DivideUnsigned,
-    Binary::RemainderUnsigned,
-];
 
 /// Makes the call of a record other than retain; none if the record is bad.
 fn call(graph: &mut Graph, tag: u8, b: &mut Body) -> Option<Result<(), Refusal>> {

@@ -99,7 +99,7 @@ pub fn try_guard(
     let words = words_or_none(graph.region().guard(condition as u64, expect))?;
     Ok(
         words.map(|[operator, left, right, expected, host64]| Guard {
-            operation: Binary::of(operator),
+            operation: Binary::from_code(operator).expect("a comparison"),
             left: left as ScalarId,
             right: right as ScalarId,
             expected: expected == 1,

@@ -144,12 +144,13 @@ impl ScalarType {
         }
     }
 
-    fn of(code: u64, width: u64) -> Self {
-        match code {
-            BOOL => ScalarType::Bool,
-            BITS => ScalarType::Bits(width as u16),
-            INTEGER => ScalarType::Integer,
-            _ => unreachable!("no type has the code {code}"),
+    /// The type that a code and a width of docs/CALLS.md name.
+    pub fn from_code(code: u64, width: u64) -> Option<Self> {
+        match (code, width) {
+            (BOOL, 0) => Some(ScalarType::Bool),
+            (BITS, width) => Some(ScalarType::Bits(width.try_into().ok()?)),
+            (INTEGER, 0) => Some(ScalarType::Integer),
+            _ => None,
         }
     }
 }
@@ -169,17 +170,18 @@ impl Unary {
         (FIRST_UNARY + place, width.into())
     }
 
-    fn of(code: u64, width: u64) -> Self {
-        let width = width as u16;
-        match code - FIRST_UNARY {
-            0 => Unary::BoolNot,
-            1 => Unary::BitNot,
-            2 => Unary::Negate,
-            3 => Unary::Truncate(width),
-            4 => Unary::SignExtend(width),
-            5 => Unary::LeadingZeros(width),
-            6 => Unary::TrailingZeros(width),
-            _ => unreachable!("no operator has the code {code}"),
+    /// The operator that a code and a parameter of docs/CALLS.md name.
+    pub fn from_code(code: u64, parameter: u64) -> Option<Self> {
+        let width = parameter.try_into().ok()?;
+        match (code.checked_sub(FIRST_UNARY)?, width) {
+            (0, 0) => Some(Unary::BoolNot),
+            (1, 0) => Some(Unary::BitNot),
+            (2, 0) => Some(Unary::Negate),
+            (3, width) => Some(Unary::Truncate(width)),
+            (4, width) => Some(Unary::SignExtend(width)),
+            (5, width) => Some(Unary::LeadingZeros(width)),
+            (6, width) => Some(Unary::TrailingZeros(width)),
+            _ => None,
         }
     }
 }
@@ -189,8 +191,17 @@ impl Binary {
         FIRST_BINARY + self as u64
     }
 
-    pub(crate) fn of(code: u64) -> Self {
-        BINARIES[(code - FIRST_BINARY) as usize]
+    /// The operator that a code of docs/CALLS.md names.
+    ///
+    /// ```
+    /// use scalars::Binary;
+    ///
+    /// assert_eq!(Binary::from_code(20), Some(Binary::Add));
+    /// assert_eq!(Binary::from_code(39), None);
+    /// ```
+    pub fn from_code(code: u64) -> Option<Self> {
+        let place = usize::try_from(code.checked_sub(FIRST_BINARY)?).ok()?;
+        BINARIES.get(place).copied()
     }
 }
 
@@ -223,9 +234,9 @@ pub(crate) fn joined(low: u64, high: u64) -> u128 {
 }
 
 impl Operation {
-    fn of(words: &[u64; WORDS]) -> Self {
+    fn of(words: &[u64; WORDS]) -> Option<Self> {
         let (x, y) = (words[X] as usize, words[Y] as usize);
-        match words[OPERATION] {
+        Some(match words[OPERATION] {
             CONSTANT => Operation::Constant(joined(words[X], words[Y])),
             INPUT => Operation::Input(x),
             REFINE => Operation::Refine(x),
@@ -240,23 +251,23 @@ impl Operation {
                 low: y,
                 low_width: words[Z] as u16,
             },
-            code if code < FIRST_BINARY => Operation::Unary(Unary::of(code, words[Z]), x),
-            code => Operation::Binary(Binary::of(code), x, y),
-        }
+            code if code < FIRST_BINARY => Operation::Unary(Unary::from_code(code, words[Z])?, x),
+            code => Operation::Binary(Binary::from_code(code)?, x, y),
+        })
     }
 }
 
 impl Scalar {
-    /// The node of these words.
+    /// The node of these words, which are a graph's: their codes name something.
     pub(crate) fn of(words: &[u64; WORDS]) -> Self {
         let range = (words[RANGE] == 1).then(|| Range {
             min: joined(words[MIN], words[MIN + 1]) as i128,
             max: joined(words[MAX], words[MAX + 1]) as i128,
         });
         Scalar {
-            ty: ScalarType::of(words[0], words[1]),
+            ty: ScalarType::from_code(words[0], words[1]).expect("a type"),
             range,
-            operation: Operation::of(words),
+            operation: Operation::of(words).expect("an operation"),
         }
     }
 }
