@@ -6,39 +6,25 @@ use crate::types::{Binary, InputId, Range, Scalar, ScalarId, ScalarType, Unary, 
 use std::fmt;
 use std::ops::Deref;
 
-/// The nodes of a graph, to be read: a slice of them, by index, length and iteration.
+/// What a graph shows of itself, to be read through it: `graph.scalars`.
 #[derive(Debug)]
-pub struct Scalars(Vec<Scalar>);
+pub struct Nodes {
+    /// The nodes by their ids. A call adds its new nodes at the end; [`Graph::retain`] makes them anew.
+    pub scalars: Vec<Scalar>,
+}
 
-impl Scalars {
+impl Nodes {
     /// So many nodes, with room for as many as a graph can hold: a call that adds one never moves the others.
     fn with_room(nodes: &[Scalar]) -> Self {
-        let mut all = Vec::with_capacity(NODES);
-        all.extend_from_slice(nodes);
-        Scalars(all)
+        let mut scalars = Vec::with_capacity(NODES);
+        scalars.extend_from_slice(nodes);
+        Nodes { scalars }
     }
 }
 
-impl Clone for Scalars {
+impl Clone for Nodes {
     fn clone(&self) -> Self {
-        Scalars::with_room(&self.0)
-    }
-}
-
-impl Deref for Scalars {
-    type Target = [Scalar];
-
-    fn deref(&self) -> &[Scalar] {
-        &self.0
-    }
-}
-
-impl<'a> IntoIterator for &'a Scalars {
-    type Item = &'a Scalar;
-    type IntoIter = std::slice::Iter<'a, Scalar>;
-
-    fn into_iter(self) -> Self::IntoIter {
-        self.0.iter()
+        Nodes::with_room(&self.scalars)
     }
 }
 
@@ -55,19 +41,34 @@ impl<'a> IntoIterator for &'a Scalars {
 /// let x = graph.input(0, ScalarType::Bits(8), None);
 /// let zero = graph.constant(ScalarType::Bits(8), 0);
 /// assert_eq!(graph.binary(ScalarType::Bits(8), Binary::Add, x, zero), Some(x));
+/// assert_eq!(graph.scalars.len(), 2);
+/// ```
+///
+/// The nodes, `graph.scalars`, are read and not changed:
+///
+/// ```compile_fail
+/// let mut graph = scalars::Graph::default();
+/// graph.scalars.clear();
 /// ```
 #[derive(Clone)]
 pub struct Graph {
-    /// The nodes by their ids. A call adds its new nodes at the end; [`Graph::retain`] makes them anew.
-    pub scalars: Scalars,
+    nodes: Nodes,
     region: Region,
+}
+
+impl Deref for Graph {
+    type Target = Nodes;
+
+    fn deref(&self) -> &Nodes {
+        &self.nodes
+    }
 }
 
 impl Default for Graph {
     /// The empty graph.
     fn default() -> Self {
         Graph {
-            scalars: Scalars::with_room(&[]),
+            nodes: Nodes::with_room(&[]),
             region: Region::empty(),
         }
     }
@@ -79,7 +80,7 @@ impl fmt::Debug for Graph {
             .filter_map(|id| Some((id, self.alias(id)?)))
             .collect();
         f.debug_struct("Graph")
-            .field("scalars", &self.scalars.0)
+            .field("scalars", &self.scalars)
             .field("aliases", &aliases)
             .finish()
     }
@@ -89,7 +90,7 @@ impl Graph {
     /// Takes over the nodes that a call has added.
     fn grown<T>(&mut self, answer: T) -> T {
         for id in self.scalars.len()..self.region.count() {
-            self.scalars.0.push(Scalar::of(self.region.node(id)));
+            self.nodes.scalars.push(Scalar::of(self.region.node(id)));
         }
         answer
     }
@@ -354,7 +355,7 @@ impl Graph {
     pub fn try_retain(&mut self, keep: &[bool]) -> Result<Vec<ScalarId>, Refusal> {
         let mut mapping = vec![0; self.region.count()];
         granted(self.region.retain(keep, &mut mapping))?;
-        self.scalars.0.clear();
+        self.nodes.scalars.clear();
         Ok(self.grown(mapping))
     }
 

@@ -11,7 +11,7 @@
 //! - A graph holds 512 nodes, and a call may enter the builders 1,024 times.
 //! - A call that the original has no answer for is refused, and the graph is as it was: [`Refusal`]. Methods with the
 //!   original's shape panic with the refusal's words, their twins `try_..` answer it.
-//! - `scalars` is read by index, length and iteration, and cannot be changed.
+//! - `graph.scalars` is read and cannot be changed.
 //! - `guard` and `Guard`, which stand in the original's module `linear`, stand here and in [`linear`].
 mod answer;
 mod evaluate;
@@ -25,7 +25,7 @@ pub use evaluate::{
     Guard, evaluate_binary, evaluate_unary, guard, mask, try_evaluate_binary, try_evaluate_unary,
     try_guard, try_mask,
 };
-pub use graph::{Graph, Scalars};
+pub use graph::{Graph, Nodes};
 pub use refusal::Refusal;
 pub use text::Picture;
 pub use types::{Binary, InputId, Operation, Range, Scalar, ScalarId, ScalarType, Unary};

@@ -217,28 +217,31 @@ fn guard_words(guard: &scalars::Guard) -> [u64; 5] {
     ]
 }
 
+// Whether two values match a guard.
+fn matched(op: u64, expected: u64, host64: u64, left: u128, right: u128) -> Option<Answer> {
+    let guard = scalars::Guard {
+        operation: bound_binary(binary_of(op)?),
+        left: 0,
+        right: 0,
+        expected: truth(expected)?,
+        host64: truth(host64)?,
+    };
+    Some(match guard.try_matches(left, right) {
+        Ok(is) => Answer::Is(is),
+        Err(refusal) => Answer::Refused(refusal.number()),
+    })
+}
+
 // A call that looks at no region.
 fn evaluated(call: &Call) -> Option<Answer> {
-    Some(match *call {
+    let value = match *call {
         Call::Matches {
             op,
             expected,
             host64,
             left,
             right,
-        } => {
-            let guard = scalars::Guard {
-                operation: bound_binary(binary_of(op)?),
-                left: 0,
-                right: 0,
-                expected: truth(expected)?,
-                host64: truth(host64)?,
-            };
-            match guard.try_matches(left, right) {
-                Ok(is) => Answer::Is(is),
-                Err(refusal) => Answer::Refused(refusal.number()),
-            }
-        }
+        } => return matched(op, expected, host64, left, right),
         Call::EvaluateUnary {
             op,
             parameter,
@@ -246,8 +249,7 @@ fn evaluated(call: &Call) -> Option<Answer> {
             room: 2,
         } => {
             short(parameter)?;
-            let operator = bound_unary(unary_of(op, parameter)?);
-            answered(scalars::try_evaluate_unary(operator, value), Answer::Value)
+            scalars::try_evaluate_unary(bound_unary(unary_of(op, parameter)?), value)
         }
         Call::EvaluateBinary {
             op,
@@ -257,16 +259,12 @@ fn evaluated(call: &Call) -> Option<Answer> {
             room: 2,
         } => {
             let (operator, ty) = (bound_binary(binary_of(op)?), bound_type(ty.ty()?));
-            answered(
-                scalars::try_evaluate_binary(operator, ty, left, right),
-                Answer::Value,
-            )
+            scalars::try_evaluate_binary(operator, ty, left, right)
         }
-        Call::Mask { width, room: 2 } => {
-            answered(scalars::try_mask(short(width)?).map(Some), Answer::Value)
-        }
+        Call::Mask { width, room: 2 } => scalars::try_mask(short(width)?).map(Some),
         _ => return None,
-    })
+    };
+    Some(answered(value, Answer::Value))
 }
 
 pub struct Binding {

@@ -281,7 +281,7 @@ impl Pair {
         }
         let [right, found] = [
             format!("{:?}", self.original.scalars),
-            format!("{:?}", &*self.bound.scalars),
+            format!("{:?}", self.bound.scalars),
         ];
         if right == found {
             return Ok(());
