@@ -146,8 +146,8 @@ WRONG = [
 
 def types_of(text):
     """The types of a source file, and the `use` lines that they need."""
-    found = re.findall(r"(?:^//[^\n]*\n)*^(?:pub )?(?:enum|struct) \w+\s*(?:\([^)]*\);|\{.*?^\})", text, re.M | re.S)
-    uses = re.findall(r"^use (?!crate)\w+::[A-Z]\w*;\n", text, re.M)
+    found = re.findall(r"(?:^//[^\n]*\n)*^(?:pub(?:\(crate\))? )?(?:enum|struct) \w+\s*(?:\([^)]*\);|\{.*?^\})", text, re.M | re.S)
+    uses = re.findall(r"^use \w+::[A-Z]\w*;\n", text, re.M)
     named = [u for u in uses if re.search(r"\b%s\b" % re.search(r"(\w+);", u).group(1), "\n".join(found))]
     return "".join(named) + "\n" + "\n\n".join(found) + "\n" if found else ""
 
