@@ -13,3 +13,5 @@ refusalNumber refusal.Value = 5
 refusalNumber refusal.Keep = 6
 refusalNumber refusal.Room = 7
 refusalNumber refusal.Units = 8
+refusalNumber refusal.Marks = 9
+refusalNumber refusal.Mark = 10

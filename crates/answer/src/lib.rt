@@ -12,6 +12,10 @@ pub enum Refusal {
     Keep,
     Room,
     Units,
+    // Sixteen marks stand.
+    Marks,
+    // The mark named does not stand.
+    Mark,
 }
 
 impl Refusal {
@@ -27,6 +31,8 @@ impl Refusal {
             Refusal::Keep => 6,
             Refusal::Room => 7,
             Refusal::Units => 8,
+            Refusal::Marks => 9,
+            Refusal::Mark => 10,
         }
     }
 }

@@ -1,9 +1,7 @@
 -- The exported calls: every answer is a number.
 use mathlib.Core.List.{List}
-use mathlib.Core.Path.{_≡_}
 use Prim.Native.Nat.{ℕ, _+_, _^_}
 use Rattle.native.specs.Call.{answerNumber, Called}
-use Rattle.native.specs.Retain.{Retention, outcomeNumber}
 
 -- a number, and the words after the call
 pub record Exported : Type 0 where
@@ -21,7 +19,3 @@ numbered c = exported (answerNumber (c .answer)) (c .words)
 -- the answer where a slice lent for words has another length than these: no refusal's number, no id
 abbrev pub WRONG_LENGTH : ℕ
 WRONG_LENGTH = 2 ^ 63 + 1
-
--- a number, a region and a mapping are those of a call of retain
-abbrev pub keptAs : ℕ → List ℕ → List ℕ → Retention → Type 0
-keptAs n g mapping r = (n ≡ outcomeNumber (r .outcome)) × (g ≡ r .words) × (mapping ≡ r .mapping)

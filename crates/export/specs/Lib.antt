@@ -1,3 +1,4 @@
 pub mod Numbers
 pub mod Export
 pub mod Reading
+pub mod Marks

@@ -54,7 +54,7 @@ pub extern "C" fn scalars_is_graph(g: &[u64]) -> u64
     number_of(is_graph(g))
 }
 
-fn number_of(truth: bool) -> u64
+pub(crate) fn number_of(truth: bool) -> u64
     ensures { λ r. ⌜ r ≡ fromBool truth ⌝ }
 {
     if truth { 1 } else { 0 }

@@ -85,7 +85,7 @@ pub record Node (g : List ℕ) (count n : ℕ) : Type 0 where
   pub alias : (aliasAt g n ≡ 0) ⊎ ((n < aliasAt g n - 1) × (aliasAt g n ≤ count))
   pub operation : isOperation n (wordAt g n OPERATION) (wordAt g n X) (wordAt g n Y) (wordAt g n Z) ≡ true
 
-alias-facts : (n count alias : ℕ) → isAlias n count alias ≡ true → (alias ≡ 0) ⊎ ((n < alias - 1) × (alias ≤ count))
+pub alias-facts : (n count alias : ℕ) → isAlias n count alias ≡ true → (alias ≡ 0) ⊎ ((n < alias - 1) × (alias ≤ count))
 alias-facts n count alias e =
     ⊎-elim (λ z. inl (eqb-true alias 0 z))
     (λ z. let d = tests (ltb n (alias - 1)) (leb alias count) z in inr (ltb-true n (alias - 1) (d .0), leb-true alias count (d .1)))

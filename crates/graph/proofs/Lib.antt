@@ -7,6 +7,7 @@ pub mod Interned
 pub mod Kept
 pub mod Wiping
 pub mod Restored
+pub mod Earlier
 pub mod Appended
 pub mod Aliases
 pub mod Words

@@ -21,7 +21,8 @@ use Rattle.graph.specs.Alias.{aliased, savedUpTo, saved, restoredUpTo, r
 use Rattle.graph.specs.WellFormed.{isGraph}
 use Rattle.graph.proofs.Grown.{Graph, graph-facts}
 use Rattle.graph.proofs.Kept.{inserted-kept}
-use Rattle.graph.proofs.Wiping.{cleared-one}
+use Rattle.graph.specs.Clear.{cleared}
+use Rattle.graph.proofs.Wiping.{Cleared, cleared-facts, cleared-one}
 
 -- ---- lengths
 
@@ -140,36 +141,95 @@ word-of n i p q = (m, omega arith, ⊎-elim (λ (l : k < KEY). inr (k, l, at)) (
     at : i ≡ nodeStart m + k
     at = omega (arith, parts, small)
 
-module _ (g h s : List ℕ) (e : isGraph g ≡ true) (room : length s ≡ LIMIT) (same : Same (countOf g) g h) where
-  f : Graph g
-  f = graph-facts g e
+-- the first n nodes of two regions with the same keys, each with the same alias words, are one region
+module _ (n : ℕ) (v w g h : List ℕ) (fits : nodeStart n ≤ length g) (size : length h ≡ length g)
+    (key : (m k : ℕ) → m < n → k < KEY → wordAt h m k ≡ wordAt g m k) (words : (m : ℕ) → m < n → getD w m 0 ≡ getD v m 0) where
+  alike : (i : ℕ) → 0 < i → i < nodeStart n → getD (restoredUpTo n w h) i 0 ≡ getD (restoredUpTo n v g) i 0
+  alike i p q = go (word-of n i p q)
+    where
+      go : (m : ℕ) × (m < n) × ((i ≡ nodeStart m + ALIAS) ⊎ ((k : ℕ) × (k < KEY) × (i ≡ nodeStart m + k)))
+          → getD (restoredUpTo n w h) i 0 ≡ getD (restoredUpTo n v g) i 0
+      go (m, l, inl a) = rw a (restored-alias n w h m (omega (arith, fits, size)) l ∙ words m l ∙ sym (restored-alias n v g m fits l))
+      go (m, l, inr (k, b, a)) =
+          rw a
+          (restored-other n w h (nodeStart m + k) (λ j q z. omega arith)
+          ∙ key m k l b
+          ∙ sym (restored-other n v g (nodeStart m + k) (λ j q z. omega arith)))
 
-  back : (i : ℕ) → 0 < i → i < nodeStart (countOf g) → getD g i 0 ≡ getD (restoredUpTo (countOf g) (savedUpTo (countOf g) g s) h) i 0
+  pub restored-alike : restored n w h ≡ restored n v g
+  unfolding restored
+  restored-alike =
+      let a = restoredUpTo n w h in
+      let b = restoredUpTo n v g in
+      let f = cleared-facts n a (omega (arith, fits, size, length-restored n w h)) in
+      cleared-one n b (cleared n a) (omega (arith, fits, length-restored n v g)) (record {
+        size = f .size ∙ length-restored n w h ∙ size ∙ sym (length-restored n v g);
+        count = f .count;
+        kept = λ i p q. f .kept i p q ∙ alike i p q;
+        empty = f .empty;
+      })
+
+-- what is read of the first n nodes with their alias words from s
+module _ (n : ℕ) (s h : List ℕ) (fits : nodeStart n ≤ length h) where
+  restored-facts : Cleared n (restoredUpTo n s h) (restored n s h)
+  unfolding restored
+  restored-facts = cleared-facts n (restoredUpTo n s h) (omega (arith, fits, length-restored n s h))
+
+  pub restored-length : length (restored n s h) ≡ length h
+  restored-length = restored-facts .size ∙ length-restored n s h
+
+  pub restored-count : countOf (restored n s h) ≡ n
+  restored-count = restored-facts .count
+
+  -- their keys stay
+  pub restored-key : (m k : ℕ) → m < n → k < KEY → wordAt (restored n s h) m k ≡ wordAt h m k
+  restored-key m k l b =
+      restored-facts .kept (nodeStart m + k) (omega arith) (omega arith)
+      ∙ restored-other n s h (nodeStart m + k) (λ j q z. omega arith)
+
+  -- their alias words are those of s
+  pub restored-alias-of : (m : ℕ) → m < n → aliasAt (restored n s h) m ≡ getD s m 0
+  restored-alias-of m l = restored-facts .kept (nodeStart m + ALIAS) (omega arith) (omega arith) ∙ restored-alias n s h m fits l
+
+  -- and nothing is past them
+  pub restored-empty : (i : ℕ) → nodeStart n ≤ i → getD (restored n s h) i 0 ≡ 0
+  restored-empty = restored-facts .empty
+
+-- a graph's own alias words, put back into what its nodes have become, give the graph
+module _ (g h w : List ℕ) (f : Graph g) (same : Same (countOf g) g h) (words : (m : ℕ) → m < countOf g → getD w m 0 ≡ aliasAt g m) where
+  back : (i : ℕ) → 0 < i → i < nodeStart (countOf g) → getD g i 0 ≡ getD (restoredUpTo (countOf g) w h) i 0
   back i p q = go (word-of (countOf g) i p q)
     where
       go : (m : ℕ) × (m < countOf g) × ((i ≡ nodeStart m + ALIAS) ⊎ ((k : ℕ) × (k < KEY) × (i ≡ nodeStart m + k)))
-          → getD g i 0 ≡ getD (restoredUpTo (countOf g) (savedUpTo (countOf g) g s) h) i 0
-      go (m, l, inl a) =
-          rw a
-          (sym
-          (restored-alias (countOf g) (savedUpTo (countOf g) g s) h m (omega (arith, f .count, same .size)) l
-          ∙ saved-at (countOf g) g s m (omega (arith, f .count)) l))
+          → getD g i 0 ≡ getD (restoredUpTo (countOf g) w h) i 0
+      go (m, l, inl a) = rw a (sym (restored-alias (countOf g) w h m (omega (arith, f .count, same .size)) l ∙ words m l))
       go (m, l, inr (k, b, a)) =
-          rw a
-          (sym
-          (restored-other (countOf g) (savedUpTo (countOf g) g s) h (nodeStart m + k) (λ j q z. omega arith)
-          ∙ same .key m k l b))
+          rw a (sym (restored-other (countOf g) w h (nodeStart m + k) (λ j q z. omega arith) ∙ same .key m k l b))
 
-  -- what was saved of a graph, put back into what its nodes have become, is the graph
-  pub restored-graph : restored (countOf g) (saved g s) h ≡ g
-  unfolding restored saved
-  restored-graph =
+  pub restored-is : restored (countOf g) w h ≡ g
+  unfolding restored
+  restored-is =
       sym
-      (cleared-one (countOf g) (restoredUpTo (countOf g) (savedUpTo (countOf g) g s) h) g
-      (omega (arith, f .count, same .size, length-restored (countOf g) (savedUpTo (countOf g) g s) h))
+      (cleared-one (countOf g) (restoredUpTo (countOf g) w h) g
+      (omega (arith, f .count, same .size, length-restored (countOf g) w h))
       (record {
-        size = f .length ∙ sym (length-restored (countOf g) (savedUpTo (countOf g) g s) h ∙ same .size);
+        size = f .length ∙ sym (length-restored (countOf g) w h ∙ same .size);
         count = refl;
         kept = back;
         empty = f .rest;
       }))
+
+-- the alias words of a graph's nodes are those saved
+pub saved-words : (g s : List ℕ) → Graph g → length s ≡ LIMIT → (m : ℕ) → m < countOf g → getD (saved g s) m 0 ≡ aliasAt g m
+unfolding saved
+saved-words g s f room m l = saved-at (countOf g) g s m (omega (arith, f .count)) l
+
+pub saved-length : (g s : List ℕ) → length (saved g s) ≡ length s
+unfolding saved
+saved-length g s = length-saved (countOf g) g s
+
+-- what was saved of a graph, put back into what its nodes have become, is the graph
+pub restored-graph : (g h s : List ℕ) → isGraph g ≡ true → length s ≡ LIMIT → Same (countOf g) g h → restored (countOf g) (saved g s) h ≡ g
+restored-graph g h s e room same =
+    let f = graph-facts g e in
+    restored-is g h (saved g s) f same (saved-words g s f room)

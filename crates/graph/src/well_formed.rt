@@ -113,7 +113,7 @@ fn is_operation(n: u64, code: u64, x: u64, y: u64, z: u64) -> bool
 }
 
 // An alias, plus 1: above its node and below the count; 0 for none.
-fn is_alias(n: u64, nodes: u64, alias: u64) -> bool
+pub fn is_alias(n: u64, nodes: u64, alias: u64) -> bool
     ensures { λ r. ⌜ r ≡ isAlias n nodes alias ⌝ }
 {
     if alias == 0 {

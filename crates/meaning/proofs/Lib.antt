@@ -12,6 +12,7 @@ pub mod Ranges
 pub mod Field
 pub mod Compared
 pub mod Play
+pub mod Returned
 pub mod Slice
 pub mod Tested
 pub mod Unary
@@ -29,4 +30,5 @@ pub mod Narrowed
 pub mod Assumed
 pub mod Guards
 pub mod Demand3
+pub mod Books
 pub mod Program

@@ -17,6 +17,9 @@ use Rattle.answer.specs.declared.Refusal.{Refusal}
 use Rattle.answer.specs.declared.Refusal.the-variants as no
 use Rattle.native.specs.Retain as retaining
 use Rattle.native.specs.Retain.{Retention, retention, retainInGraph, retainCall}
+use Rattle.mark.specs.WellFormed.{isMarked}
+use Rattle.mark.specs.Mark as marks
+use Rattle.mark.proofs.Facts.{marked-both}
 use Rattle.meaning.specs.Book.{keeps, renumbered, renumbering}
 use Rattle.meaning.proofs.Worlds.{World, value}
 use Rattle.meaning.proofs.Answers.{by-test}
@@ -121,3 +124,10 @@ module _ (keep : List ℕ) where
     kept-value {ρ} i n l e =
         of-kept (λ r. value ρ (r .words) (renumbered keep n) ≡ value ρ g n) g keep mapping k q
         (λ f. ap (value ρ (retained g keep)) (sym (below-renumbered keep n)) ∙ retain-value ρ i f n l (kept-same keep n ∙ e))
+
+-- ---- with marks
+
+-- on a graph with its marks a retain is that of the graph's region alone, but for the marks
+pub marked-retain : (g m keep mapping : List ℕ) → isMarked g m ≡ true → marks.retainCall g m keep mapping .retention ≡ retainCall g keep mapping
+unfolding marks.retainCall marks.retainInGraph retainCall
+marked-retain g m keep mapping e = rw (e, marked-both g m e .0)

@@ -1,18 +1,21 @@
--- Of every list of calls, where the builders are sound: the invariant of its graph, and every line right where the conditions are met. Assumes nothing.
+-- Of every list of calls, where the builders are sound: the invariant of its graph, and every line right where the conditions are met,
+-- now and at each mark that stands. Assumes nothing.
 use mathlib.Core.Path.{_≡_, refl, sym, ap, _∙_, subst}
 use mathlib.Core.Bool.{Bool, true, false, cond, false≢true, _&&_}
 use mathlib.Core.List.{List, [], _∷_, _++_}
-use mathlib.Core.Logic.{inl, inr, ⊎-elim}
+use mathlib.Core.Logic.{_⊎_, inl, inr, ⊎-elim}
 use mathlib.Core.Option.{Option, none, some}
-use Prim.Native.Nat.{ℕ, _^_, _≤_, _<_}
+use Prim.Native.Nat.{ℕ, suc, _+_, _^_, _≤_, _<_}
 use native.Mathlib.Nat.{mod-lt, le-refl}
 use native.Mathlib.Omega.{arith}
 use borrow.Author.Tests.{eqb-true, ltb-true, leb-true, le-leb}
 use lib.Dec.{eqb, ltb, leb}
-use lib.ListN.{replicate}
+use lib.ListN.{length, getD, take, replicate, length-append, List·getD-append}
+use lib.Seq.{getD-append-add, getD-take, length-take-le}
 use lib.Pow.{pow-pos}
 use lib.Signed.{leZ}
 use Rattle.word.specs.Option.{fromBool, orElse}
+use Rattle.word.proofs.Integer.{lt-or-ge}
 use Rattle.range.specs.Interval.{Interval, _∈_, typeInterval}
 use Rattle.range.specs.declared.ScalarType.{ScalarType}
 use Rattle.range.specs.declared.ScalarType.the-variants as ty
@@ -30,13 +33,15 @@ use Rattle.graph.specs.WellFormed.{isGraph}
 use Rattle.graph.specs.Insert as graph
 use Rattle.graph.specs.Insert.{Reply, constantInterval, interned, appended, foundOr, inserted}
 use Rattle.graph.proofs.Nodes.{appended-made, appended-full}
+use Rattle.graph.proofs.Grown.{Graph, graph-facts}
+use Rattle.graph.proofs.Restored.{Same, same-self}
 use Rattle.fold.specs.Shape.{sameType, sameBinary}
 use Rattle.assume.specs.Refine as refine
 use Rattle.assume.specs.Refine.{Outcome}
 use Rattle.assume.specs.Assume.{assumedGuard}
 use Rattle.build.specs.Build as build
 use Rattle.build.specs.Build.{Out, out}
-use Rattle.retain.specs.Retain.{isKeepList, retained}
+use Rattle.retain.specs.Retain.{isKeepList, keptBelow, retained}
 use Rattle.retain.proofs.Operands.{KeepList, keep-list-facts}
 use Rattle.answer.specs.declared.Refusal.{Refusal}
 use Rattle.answer.specs.declared.Refusal.the-variants as no
@@ -45,11 +50,20 @@ use Rattle.native.specs.Call.{Called, refusal}
 use Rattle.request.specs.Request as asks
 use Rattle.request.specs.Request.{Request, allUpTo, allBelow, widths, ids, typed, isBoolValue, isRangeOf, declarable}
 use Rattle.native.specs.Perform.{UNITS, settled, builderOut, guardOut, worked, finished, performed, requestInGraph, requestCall}
-use Rattle.native.specs.Retain.{retainInGraph, retainCall}
+use Rattle.native.specs.Retain as retaining
+use Rattle.native.specs.Retain.{Retention, retainInGraph}
+use Rattle.mark.specs.Layout.{MOST, standing}
+use Rattle.mark.specs.WellFormed.{isMarked}
+use Rattle.mark.specs.Mark as marks
+use Rattle.mark.specs.Mark.{Marking, Returning, Retaining, standingOnly, marked, returned, unmarked, markCall, markInGraph, returnCall, returnInGraph}
+use Rattle.mark.proofs.Facts.{Marks, both-marked, facts-marks}
+use Rattle.mark.proofs.Marks.{standing-length, standing-is, marked-standing}
+use Rattle.mark.proofs.Moved.{kept-marks, kept-returned, marked-marks, marked-returned, marked-earlier, returned-marks, returned-earlier, none-marks}
+use Rattle.mark.proofs.Requests.{request-same}
 use Rattle.request.specs.Typing.{isNumber, binaryTyped}
 use Rattle.meaning.specs.Value.{Env, size, integerOf, ofType, valued, Operand, value, operand}
 use Rattle.meaning.proofs.Worlds.{World, operationMeans}
-use Rattle.meaning.specs.Book.{Action, request, retain, patterned, requestMeans, Line, Condition, inputIs, effectIs, holds, first, handed, requestConditions, keeps, renumbered, struck, State, called, kept, acted, act, play, AllMet, Right, AllRight}
+use Rattle.meaning.specs.Book.{Action, request, retain, mark, returnTo, patterned, requestMeans, Line, Condition, inputIs, effectIs, holds, first, handed, requestConditions, keeps, renumbered, struck, retains, Book, blank, dropsAll, State, History, called, kept, acted, retainedBy, markedBy, returnedBy, act, play, Unmarked, AllMet, Right, AllRight}
 use Rattle.meaning.proofs.Values.{typed-is}
 use Rattle.graph.proofs.Appended.{empty-graph}
 use Rattle.meaning.proofs.Invariant.{shiftable, storedTyped, Ends, Within, Inv, Extends, ext-here, ext-value, Storable, Kept, Answered, insert-good}
@@ -421,26 +435,165 @@ module _ (ρ : Env) (s : State) (i : Inv (At ρ (s .book .conditions)) (s .graph
           )
       go false k ih = ih
 
-  retain-fine : (keep mapping : List ℕ) → Fine ρ (act ρ (retain keep mapping) s)
-  unfolding retainCall retainInGraph
-  retain-fine keep mapping =
-      by-test (λ k. Fine ρ (kept k keep (s .book))) (isGraph (s .graph))
-      (λ e.
+  retain-fine : (keep mapping : List ℕ) → isGraph (s .graph) ≡ true → Fine ρ (kept (retainInGraph (s .graph) keep mapping) keep (s .book))
+  unfolding retainInGraph
+  retain-fine keep mapping e =
       by-test (λ k. Fine ρ (kept k keep (s .book))) (isKeepList (s .graph) keep mapping)
-      (λ c.
-      (retain-inv here i (keep-list-facts (s .graph) keep mapping c), λ m. struck-right keep mapping c (s .book .lines) (r m)))
-      (λ c. (i, r)))
-      (λ e. (i, r))
+      (λ c. (retain-inv here i (keep-list-facts (s .graph) keep mapping c), λ m. struck-right keep mapping c (s .book .lines) (r m)))
+      (λ c. (i, r))
+
+-- ---- a graph with its marks
+
+-- the graph and the book at mark k
+abbrev pub stateAt : History → ℕ → State
+stateAt h k = record { graph = returned (h .now .graph) (h .marks) k; book = getD (h .books) k blank }
+
+-- now and at each mark that stands: the invariant, and every line right where the conditions of that book are met
+pub record Whole (ρ : Env) (h : History) : Type 0 where
+  pub now : Fine ρ (h .now)
+  pub marks : Marks (countOf (h .now .graph)) (h .marks)
+  pub standing : standing (h .marks) ≡ length (h .books)
+  pub then : (k : ℕ) → k < length (h .books) → Fine ρ (stateAt h k)
+
+-- a fine state with another graph and book that are equal to its own
+fine-same : (ρ : Env) {g h : List ℕ} {a b : Book} → g ≡ h → a ≡ b → Fine ρ (record { graph = h; book = b }) → Fine ρ (record { graph = g; book = a })
+fine-same ρ {g} {h} {a} {b} p q f =
+    let e : _≡_ {A = State} (record { graph = g; book = a }) (record { graph = h; book = b }) = λ i. record { graph = p i; book = q i } in
+    subst (λ (s : State). Fine ρ s) (sym e) f
+
+module _ (ρ : Env) (h : History) (w : Whole ρ h) where
+  abbrev g : List ℕ
+  g = h .now .graph
+
+  abbrev m : List ℕ
+  m = h .marks
+
+  isIt : isGraph g ≡ true
+  isIt = w .now .0 .graph
+
+  f : Graph g
+  f = graph-facts g isIt
+
+  both : isMarked g m ≡ true
+  both = both-marked g m isIt (facts-marks (countOf g) m (w .marks))
+
+  stands : (k : ℕ) → k < length (h .books) → k < standing m
+  stands k l = omega (arith, w .standing)
+
+  -- a request
+  request-whole : (s : State) → Fine ρ s → Same (countOf g) g (s .graph) → Whole ρ (record { now = s; marks = m; books = h .books })
+  request-whole s fine same = record {
+    now = fine;
+    marks = kept-marks g (s .graph) m f (w .marks) same;
+    standing = w .standing;
+    then = λ k l. fine-same ρ {a = getD (h .books) k blank} (kept-returned g (s .graph) m f (w .marks) same k (stands k l)) refl (w .then k l);
+  }
+
+  -- a mark
+  set-whole : standing m < MOST → Whole ρ (record { now = h .now; marks = marked g m (standing m); books = h .books ++ (h .now .book ∷ []) })
+  set-whole room = record {
+    now = w .now;
+    marks = marked-marks g m f (w .marks) room;
+    standing = marked-standing g m (standing m) f (w .marks .length) room ∙ omega (arith, w .standing, more);
+    then = λ k l.
+        ⊎-elim
+        (λ (p : k < length (h .books)).
+        fine-same ρ (marked-earlier g m f (w .marks) room k (stands k p)) (List·getD-append (h .books) (h .now .book ∷ []) blank k p) (w .then k p))
+        (λ (p : length (h .books) ≤ k).
+        let e : standing m ≡ k = omega (arith, w .standing, more) in
+        subst (λ (j : ℕ). Fine ρ (record { graph = returned g (marked g m (standing m)) j; book = getD (h .books ++ (h .now .book ∷ [])) j blank })) e
+        (fine-same ρ (marked-returned g m f (w .marks) room g (same-self g f)) last (w .now)))
+        (lt-or-ge k (length (h .books)));
+  }
+    where
+      more : length (h .books ++ (h .now .book ∷ [])) ≡ length (h .books) + 1
+      more = length-append (h .books) (h .now .book ∷ [])
+
+      last : getD (h .books ++ (h .now .book ∷ [])) (standing m) blank ≡ h .now .book
+      last =
+          let e : standing m ≡ length (h .books) + 0 = omega (arith, w .standing) in
+          ap (λ (j : ℕ). getD (h .books ++ (h .now .book ∷ [])) j blank) e ∙ getD-append-add (h .books) (h .now .book ∷ []) 0 blank
+
+  mark-whole : Whole ρ (act ρ mark h)
+  unfolding markCall markInGraph
+  mark-whole =
+      by-test (λ (c : Marking). Whole ρ (markedBy c h)) (isMarked g m)
+      (λ e. by-test (λ (c : Marking). Whole ρ (markedBy c h)) (ltb (standing m) MOST) (λ l. set-whole (ltb-true (standing m) MOST l)) (λ l. w))
+      (λ e. w)
+
+  -- a return
+  back-whole : (k : ℕ) → k < standing m
+      → Whole ρ (record { now = stateAt h k; marks = standingOnly (k + 1) m; books = take (suc k) (h .books) })
+  back-whole k l = record {
+    now = w .then k here;
+    marks = returned-marks g m f (w .marks) k l;
+    standing = standing-is (k + 1) m (w .marks .length) ∙ omega (arith, less);
+    then = λ j p.
+        let q : j < suc k = omega (arith, less) in
+        fine-same ρ (returned-earlier g m f (w .marks) k l j (omega arith)) (getD-take (suc k) (h .books) j blank q) (w .then j (omega (arith, here)));
+  }
+    where
+      here : k < length (h .books)
+      here = omega (arith, l, w .standing)
+
+      less : length (take (suc k) (h .books)) ≡ suc k
+      less = length-take-le (suc k) (h .books) (omega (arith, here))
+
+  return-whole : (k : ℕ) → Whole ρ (act ρ (returnTo k) h)
+  unfolding returnCall returnInGraph
+  return-whole k =
+      by-test (λ (c : Returning). Whole ρ (returnedBy c k h)) (isMarked g m)
+      (λ e. by-test (λ (c : Returning). Whole ρ (returnedBy c k h)) (ltb k (standing m)) (λ l. back-whole k (ltb-true k (standing m) l)) (λ l. w))
+      (λ e. w)
+
+  -- a retain
+  kept-whole : (r : Retention) (keep : List ℕ) → Fine ρ (kept r keep (h .now .book)) → (r .words ≡ g) ⊎ ((n : ℕ) × (r .outcome ≡ retaining.kept n))
+      → Whole ρ (retainedBy (marks.retaining r (unmarked (r .outcome) m)) keep h)
+  kept-whole r keep fine = by (r .outcome) fine
+    where
+      dropped : (s : State) → Fine ρ s → Whole ρ (record { now = s; marks = standingOnly 0 m; books = [] })
+      dropped s fine = record {
+        now = fine;
+        marks = none-marks (countOf (s .graph)) (standingOnly 0 m) (standing-length 0 m ∙ w .marks .length) (standing-is 0 m (w .marks .length));
+        standing = standing-is 0 m (w .marks .length);
+        then = λ k l. absurd (omega arith);
+      }
+
+      by : (o : retaining.Outcome) → Fine ρ (record { graph = r .words; book = retains o keep (h .now .book) }) → (r .words ≡ g) ⊎ ((n : ℕ) × (o ≡ retaining.kept n))
+          → Whole ρ (record { now = record { graph = r .words; book = retains o keep (h .now .book) }; marks = unmarked o m; books = dropsAll o (h .books) })
+      by (retaining.kept n) fine c = dropped (record { graph = r .words; book = record { lines = struck keep (h .now .book .lines); conditions = h .now .book .conditions } }) fine
+      by (retaining.refused a) fine (inl e) = request-whole (record { graph = r .words; book = h .now .book }) fine (subst (Same (countOf g) g) (sym e) (same-self g f))
+      by (retaining.refused a) fine (inr (n, e)) = let z : _≡_ {A = ℕ} 0 1 = cc in absurd (omega arith)
+
+  in-graph : (keep mapping : List ℕ)
+      → (retainInGraph g keep mapping .words ≡ g) ⊎ ((n : ℕ) × (retainInGraph g keep mapping .outcome ≡ retaining.kept n))
+  unfolding retainInGraph
+  in-graph keep mapping =
+      by-test (λ (r : Retention). (r .words ≡ g) ⊎ ((n : ℕ) × (r .outcome ≡ retaining.kept n))) (isKeepList g keep mapping)
+      (λ c. inr (keptBelow keep (countOf g), refl)) (λ c. inl refl)
+
+  retain-whole : (keep mapping : List ℕ) → Whole ρ (act ρ (retain keep mapping) h)
+  unfolding marks.retainCall marks.retainInGraph
+  retain-whole keep mapping =
+      by-test (λ (c : Retaining). Whole ρ (retainedBy c keep h)) (isMarked g m)
+      (λ e. kept-whole (retainInGraph g keep mapping) keep (retain-fine ρ (h .now) (w .now .0) (w .now .1) keep mapping isIt) (in-graph keep mapping))
+      (λ e. w)
 
 -- ---- every list of calls
 
 module _ (builds : (w : World) → Sound w build.build)
     (tested : (w : World) (g : List ℕ) → Inv w g → (v low high : ℕ) → v < countOf g
     → Tree.Ends w g ty.Bool (requestMeans (w .env) (operand (w .env) g) (asks.unsignedRange v low high)) (build.unsignedRange v low high UNITS g)) (ρ : Env) where
-  act-fine : (a : Action) (s : State) → Fine ρ s → Fine ρ (act ρ a s)
-  act-fine (request q) s f =
-      request-fine ρ s (f .0) (f .1) (builds (At ρ (s .book .conditions))) (tested (At ρ (s .book .conditions)) (s .graph) (f .0)) (patterned q) (patterned-is q)
-  act-fine (retain keep mapping) s f = retain-fine ρ s (f .0) (f .1) keep mapping
+  act-whole : (a : Action) (h : History) → Whole ρ h → Whole ρ (act ρ a h)
+  act-whole (request q) h w =
+      let s = h .now in
+      let k = w .now in
+      request-whole ρ h w (acted ρ (patterned q) s)
+      (request-fine ρ s (k .0) (k .1) (builds (At ρ (s .book .conditions))) (tested (At ρ (s .book .conditions)) (s .graph) (k .0)) (patterned q) (patterned-is q))
+      (request-same (s .graph) (patterned q) (k .0 .graph))
+  act-whole (retain keep mapping) h w = retain-whole ρ h w keep mapping
+  act-whole mark h w = mark-whole ρ h w
+  act-whole (returnTo k) h w = return-whole ρ h w k
 
   empty-inv : Inv (At ρ []) (replicate REGION 0)
   empty-inv = record {
@@ -454,7 +607,12 @@ module _ (builds : (w : World) → Sound w build.build)
     alias = λ n l. absurd (omega arith);
   }
 
-  pub play-fine : (calls : List Action) → Fine ρ (play ρ calls)
+  pub play-whole : (m : List ℕ) → Unmarked m → (calls : List Action) → Whole ρ (play ρ m calls)
   unfolding play
-  play-fine [] = (empty-inv, λ m. tt)
-  play-fine (a ∷ before) = act-fine a (play ρ before) (play-fine before)
+  play-whole m u [] = record {
+    now = (empty-inv, λ m. tt);
+    marks = none-marks (countOf (replicate REGION 0)) m (u .0) (u .1);
+    standing = u .1;
+    then = λ k l. absurd (omega arith);
+  }
+  play-whole m u (a ∷ before) = act-whole a (play ρ m before) (play-whole m u before)

@@ -8,7 +8,7 @@ use native.Mathlib.Nat.{le-of-eq, min-eq-left, min-le-right}
 use native.Mathlib.Omega.{arith}
 use borrow.Author.Tests.{eqb-true, leb-true, eq-eqb}
 use lib.Dec.{eqb, leb, lit<}
-use lib.ListN.{length, getD, take, drop, replicate, length-append, length-drop}
+use lib.ListN.{length, getD, take, drop, replicate, length-append, length-drop, length-replicate, getD-replicate}
 use lib.Seq.{length-take-le}
 use Rattle.word.specs.Option.{provided, mapped, given}
 use Rattle.word.proofs.Integer.{signed-mag}
@@ -27,18 +27,23 @@ use Rattle.request.specs.Request.{Request}
 use Rattle.native.specs.Call.{Called}
 use Rattle.native.specs.Perform.{requestInGraph, requestCall}
 use Rattle.native.specs.Retain.{Retention, retainInGraph, retainCall}
+use Rattle.mark.specs.Layout.{MARKS}
+use Rattle.mark.specs.WellFormed.{isMarked}
+use Rattle.mark.specs.Mark as marks
+use Rattle.mark.proofs.Facts.{marked-both}
 use Rattle.record.specs.Record as records
 use Rattle.record.specs.Record.{little, Bytes, constantBody, constantValue, inputBody, inputType, inputFlag, inputPlain, inputMinimum, effectType, unaryOperator, binaryOperator, guardExpected, requestIn, Asked, askedIn, tagIn, asked}
 use Rattle.record.specs.Line.{BAD, answerLine, retainLine}
 use Rattle.record.specs.Perform.{Effect, lentWords, doneBy, effectInGraph, effectCall}
 use Rattle.record.proofs.Little.{bytes-drop, little-below}
 use Rattle.meaning.specs.Value.{Env}
-use Rattle.meaning.specs.Book.{Action, request, retain, patterned, play}
+use Rattle.meaning.specs.Book.{Action, request, retain, mark, returnTo, patterned, play, Unmarked}
 use Rattle.meaning.specs.Program.{Run, next, runOf, isOver, callOf, callsOf, lineOf, linesOf, AllBytes, Plays, Grown}
 use Rattle.meaning.proofs.Answers.{by-test, by-provided, by-given}
 use Rattle.meaning.proofs.Invariant.{Ends}
 use Rattle.meaning.proofs.Patterns.{Pattern, patterned-same}
-use Rattle.meaning.proofs.Demand3.{grown-graph}
+use Rattle.meaning.proofs.Demand3.{grown-graph, grown-marked}
+use Rattle.meaning.proofs.Mapping.{marked-retain}
 
 -- ---- what holds of an answer that is there
 
@@ -170,14 +175,19 @@ asked-all bs b =
 -- ---- one record and one call
 
 -- what a call leaves of a graph
-abbrev leaves : List ℕ → Action → List ℕ
-leaves g (request q) = requestCall g (patterned q) .words
-leaves g (retain keep mapping) = retainCall g keep mapping .words
+abbrev leaves : List ℕ → List ℕ → Action → List ℕ
+leaves g w (request q) = requestCall g (patterned q) .words
+leaves g w (retain keep mapping) = marks.retainCall g w keep mapping .retention .words
+leaves g w mark = g
+leaves g w (returnTo k) = marks.returnCall g w k .words
 
-play-leaves : (ρ : Env) (a : Action) (before : List Action) → play ρ (a ∷ before) .graph ≡ leaves (play ρ before .graph) a
+play-leaves : (ρ : Env) (w : List ℕ) (a : Action) (before : List Action)
+    → play ρ w (a ∷ before) .now .graph ≡ leaves (play ρ w before .now .graph) (play ρ w before .marks) a
 unfolding play
-play-leaves ρ (request q) before = refl
-play-leaves ρ (retain keep mapping) before = refl
+play-leaves ρ w (request q) before = refl
+play-leaves ρ w (retain keep mapping) before = refl
+play-leaves ρ w mark before = refl
+play-leaves ρ w (returnTo k) before = refl
 
 -- question 6 looks at the length of a mapping alone
 and-twice : (b c : Bool) → b && (true && c) ≡ b && (b && c)
@@ -210,7 +220,10 @@ retain-length g keep m =
     (λ c. ids-length keep (countOf g) ∙ sym (keep-list-facts g keep m c .ids)) (λ c. refl))
     (λ e. refl)
 
-module _ (g m : List ℕ) (isIt : isGraph g ≡ true) (fits : LIMIT ≤ length m) where
+module _ (g w m : List ℕ) (both : isMarked g w ≡ true) (fits : LIMIT ≤ length m) where
+  isIt : isGraph g ≡ true
+  isIt = marked-both g w both .0
+
   lent-all : lentWords g m ≡ countOf g
   lent-all = min-eq-left (omega (arith, graph-facts g isIt .count, fits))
 
@@ -219,8 +232,8 @@ module _ (g m : List ℕ) (isIt : isGraph g ≡ true) (fits : LIMIT ≤ length m
 
   -- a record's effect is its call's
   pub record Does (a : Action) (e : Effect) : Type 0 where
-    pub graph : e .graph ≡ leaves g a
-    pub text : e .text ≡ lineOf g a
+    pub graph : e .graph ≡ leaves g w a
+    pub text : e .text ≡ lineOf g w a
     pub on : e .isLast ≡ false
     pub mapping : length (e .mapping) ≡ length m
 
@@ -233,8 +246,8 @@ module _ (g m : List ℕ) (isIt : isGraph g ≡ true) (fits : LIMIT ≤ length m
       let k = lentWords g m in
       let s = retain-alike g keep (take k m) keep (keep-fits g keep (take k m) (lent-length ∙ lent-all)) in
       record {
-        graph = s .0;
-        text = ap retainLine (s .1);
+        graph = s .0 ∙ sym (ap (λ (r : Retention). r .words) (marked-retain g w keep keep both));
+        text = ap retainLine (s .1 ∙ sym (ap (λ (r : Retention). r .outcome) (marked-retain g w keep keep both)));
         on = refl;
         mapping = length-append (retainCall g keep (take k m) .mapping) (drop k m)
             ∙ rw (retain-length g keep (take k m), lent-length, length-drop k m) (omega (arith, min-le-right (countOf g) (length m)));
@@ -242,17 +255,17 @@ module _ (g m : List ℕ) (isIt : isGraph g ≡ true) (fits : LIMIT ≤ length m
 
 -- ---- records one after another
 
-module _ (ρ : Env) (m : List ℕ) (fits : LIMIT ≤ length m) where
+module _ (ρ : Env) (w : List ℕ) (unmarked : Unmarked w) (m : List ℕ) (fits : LIMIT ≤ length m) where
   -- the theorem, with a mapping that keeps its length
   abbrev Played : List (List ℕ) → Run → Type 0
-  Played rs s = Plays ρ rs s × (length (s .mapping) ≡ length m)
+  Played rs s = Plays ρ w rs s × (length (s .mapping) ≡ length m)
 
   -- a record more
   step : (rs : List (List ℕ)) (r : List ℕ) (s : Run) → Bytes r → Played rs s → Played (r ∷ rs) (next s r)
   unfolding callsOf linesOf effectCall doneBy
   step rs r s b pl = by (isOver rs) refl (asked r) refl
     where
-      p : Plays ρ rs s
+      p : Plays ρ w rs s
       p = pl .0
 
       by : (t : Bool) → isOver rs ≡ t → (o : Option Asked) → asked r ≡ o → Played (r ∷ rs) (next s r)
@@ -261,20 +274,21 @@ module _ (ρ : Env) (m : List ℕ) (fits : LIMIT ≤ length m) where
           rw h (record { graph = rw e (p .graph); text = rw e (rw e at (p .text)); over = rw e }, pl .1)
       by false e none q =
           let h : s .isOver ≡ false = p .over ∙ e in
-          let t : s .text ≡ linesOf ρ (callsOf rs) = (rw e at (p .text)) ∙ append-nil (linesOf ρ (callsOf rs)) in
+          let t : s .text ≡ linesOf ρ w (callsOf rs) = (rw e at (p .text)) ∙ append-nil (linesOf ρ w (callsOf rs)) in
           rw (h, q) (record { graph = rw (e, q) (p .graph); text = rw (e, q) (ap (λ (x : List ℕ). x ++ BAD) t); over = rw (e, q) }, pl .1)
       by false e (some a) q =
           let h : s .isOver ≡ false = p .over ∙ e in
-          let t : s .text ≡ linesOf ρ (callsOf rs) = (rw e at (p .text)) ∙ append-nil (linesOf ρ (callsOf rs)) in
-          let isIt : isGraph (s .graph) ≡ true = rw (p .graph) (grown-graph ρ (callsOf rs)) in
-          let d = does (s .graph) (s .mapping) isIt (omega (arith, pl .1, fits)) a (asked-all r b a q) in
+          let t : s .text ≡ linesOf ρ w (callsOf rs) = (rw e at (p .text)) ∙ append-nil (linesOf ρ w (callsOf rs)) in
+          let v = play ρ w (callsOf rs) .marks in
+          let both : isMarked (s .graph) v ≡ true = rw (p .graph) (grown-marked ρ w unmarked (callsOf rs)) in
+          let d = does (s .graph) v (s .mapping) both (omega (arith, pl .1, fits)) a (asked-all r b a q) in
           rw (h, q) (
             record {
-              graph = rw (e, q) (d .graph ∙ ap (λ (x : List ℕ). leaves x (callOf a)) (p .graph) ∙ sym (play-leaves ρ (callOf a) (callsOf rs)));
+              graph = rw (e, q) (d .graph ∙ ap (λ (x : List ℕ). leaves x v (callOf a)) (p .graph) ∙ sym (play-leaves ρ w (callOf a) (callsOf rs)));
               text = rw (e, q)
                   (ap (λ (x : List ℕ). x ++ doneBy (requestCall (s .graph)) (retainCall (s .graph)) (s .graph) (s .mapping) (some a) .text) t
-                  ∙ ap (λ (x : List ℕ). linesOf ρ (callsOf rs) ++ x) (d .text ∙ ap (λ (x : List ℕ). lineOf x (callOf a)) (p .graph))
-                  ∙ sym (append-nil (linesOf ρ (callsOf rs) ++ lineOf (play ρ (callsOf rs) .graph) (callOf a))));
+                  ∙ ap (λ (x : List ℕ). linesOf ρ w (callsOf rs) ++ x) (d .text ∙ ap (λ (x : List ℕ). lineOf x v (callOf a)) (p .graph))
+                  ∙ sym (append-nil (linesOf ρ w (callsOf rs) ++ lineOf (play ρ w (callsOf rs) .now .graph) v (callOf a))));
               over = rw (e, q) (d .on);
             },
             d .mapping ∙ pl .1,
@@ -308,7 +322,7 @@ effect-asked g m bs e = by (asked bs)
 
 -- a grown graph passes question 1
 pub grown-is-graph : {g : List ℕ} → Grown g → isGraph g ≡ true
-grown-is-graph w = rw (sym (w .grows)) (grown-graph (w .env) (w .calls))
+grown-is-graph w = rw (sym (w .grows)) (grown-graph (w .env) (w .marks) (w .none) (w .calls))
 
 -- what records leave of a grown graph is grown
 pub grown-effect : (g m bs : List ℕ) → Bytes bs → Grown g → Grown (effectInGraph g m bs .graph)
@@ -319,16 +333,21 @@ grown-effect g m bs b w = by (asked bs) refl
     by none e = w
     by (some (records.request q)) e = record {
       env = w .env;
+      marks = w .marks;
+      none = w .none;
       calls = request q ∷ w .calls;
-      grows = play-leaves (w .env) (request q) (w .calls)
+      grows = play-leaves (w .env) (w .marks) (request q) (w .calls)
           ∙ ap (λ (x : List ℕ). requestCall x (patterned q) .words) (w .grows)
           ∙ ap (λ (p : Request). requestCall g p .words) (patterned-same q (asked-all bs b (records.request q) e))
           ∙ ap (λ (c : Called). c .words) (request-asked g q (grown-is-graph w));
     }
     by (some (records.retain keep)) e = record {
       env = w .env;
+      marks = w .marks;
+      none = w .none;
       calls = retain keep (take (lentWords g m) m) ∷ w .calls;
-      grows = play-leaves (w .env) (retain keep (take (lentWords g m) m)) (w .calls)
+      grows = play-leaves (w .env) (w .marks) (retain keep (take (lentWords g m) m)) (w .calls)
+          ∙ ap (λ (r : Retention). r .words) (marked-retain _ _ keep (take (lentWords g m) m) (grown-marked (w .env) (w .marks) (w .none) (w .calls)))
           ∙ ap (λ (x : List ℕ). retainCall x keep (take (lentWords g m) m) .words) (w .grows)
           ∙ ap (λ (r : Retention). r .words) (retain-asked g keep (take (lentWords g m) m) (grown-is-graph w));
     }
@@ -336,4 +355,10 @@ grown-effect g m bs b w = by (asked bs) refl
 -- the empty graph is grown
 pub empty-grown : Grown (replicate REGION 0)
 unfolding play
-empty-grown = record { env = record { input = λ n. 0; effect = λ n. 0 }; calls = []; grows = refl }
+empty-grown = record {
+  env = record { input = λ n. 0; effect = λ n. 0 };
+  marks = replicate MARKS 0;
+  none = (length-replicate {A = ℕ} MARKS 0, getD-replicate {A = ℕ} MARKS 0 0 0 (omega arith));
+  calls = [];
+  grows = refl;
+}

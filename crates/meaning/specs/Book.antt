@@ -3,9 +3,9 @@ use mathlib.Core.Bool.{Bool, true, cond, _&&_}
 use mathlib.Core.List.{List, [], _∷_, _++_}
 use mathlib.Core.Option.{Option, none, some}
 use mathlib.Core.Path.{_≡_}
-use Prim.Native.Nat.{ℕ, zero, suc, _-_, _%_, _^_, _<_}
+use Prim.Native.Nat.{ℕ, zero, suc, _-_, _%_, _^_, _<_, _≤_}
 use lib.Dec.{eqb, leb}
-use lib.ListN.{getD, replicate}
+use lib.ListN.{length, getD, take, replicate}
 use lib.IntN.{ℤ}
 use Rattle.word.specs.Value.{residue, signed}
 use Rattle.word.specs.Option.{fromBool, orElse}
@@ -20,15 +20,21 @@ use Rattle.request.specs.Request as asks
 use Rattle.request.specs.Request.{Request}
 use Rattle.native.specs.Perform.{requestCall}
 use Rattle.native.specs.Retain as retaining
-use Rattle.native.specs.Retain.{Outcome, Retention, retainCall}
+use Rattle.native.specs.Retain.{Outcome, Retention}
+use Rattle.answer.specs.declared.Refusal.the-variants as no
+use Rattle.mark.specs.Layout.{MARKS, standing}
+use Rattle.mark.specs.Mark as marking
+use Rattle.mark.specs.Mark.{Number, Marking, Returning, Retaining, markCall, returnCall, retainCall}
 use Rattle.meaning.specs.Value.{Env, size, integerOf, ofType, valued, andThen, Operand, unaryMeans, binaryMeans, sliceMeans, concatMeans, value}
 
 -- ---- the calls
 
--- a call of demand 3 with any arguments; a retain has its keep list and the mapping lent
+-- a call of demand 3 with any arguments; a retain has its keep list and the mapping lent, a return the mark's number
 pub data Action : Type 0 where
   request : Request → Action
   retain : List ℕ → List ℕ → Action
+  mark : Action
+  returnTo : ℕ → Action
 
 -- the end of a range as the signed number of its 128-bit pattern
 abbrev pub signedEnd : ℤ → ℤ
@@ -139,12 +145,48 @@ abbrev pub retains : Outcome → List ℕ → Book → Book
 retains (retaining.kept n) keep b = record { lines = struck keep (b .lines); conditions = b .conditions }
 retains (retaining.refused r) keep b = b
 
+-- the book before any call
+abbrev pub blank : Book
+blank = record { lines = []; conditions = [] }
+
+-- ---- the books at the marks that stand, the first mark's first
+
+-- a mark remembers the book
+abbrev pub remembers : Number → Book → List Book → List Book
+remembers (marking.number k) b bs = bs ++ (b ∷ [])
+remembers (marking.refused r) b bs = bs
+
+-- a return puts the book back to what it was at its mark
+abbrev pub putBack : Response → ℕ → List Book → Book → Book
+putBack (calls.id n) k bs b = b
+putBack calls.nothing k bs b = b
+putBack calls.done k bs b = getD bs k blank
+putBack (calls.refused r) k bs b = b
+
+-- it keeps its own mark and drops later ones
+abbrev pub forgets : Response → ℕ → List Book → List Book
+forgets (calls.id n) k bs = bs
+forgets calls.nothing k bs = bs
+forgets calls.done k bs = take (suc k) bs
+forgets (calls.refused r) k bs = bs
+
+-- a retain that isn't refused drops all marks
+abbrev pub dropsAll : Outcome → List Book → List Book
+dropsAll (retaining.kept n) bs = []
+dropsAll (retaining.refused r) bs = bs
+
 -- ---- playing
 
 -- a graph and the book beside it
 pub record State : Type 0 where
   pub graph : List ℕ
   pub book : Book
+
+-- what a list of calls leaves: the graph and the book, the marks' region, and the book at each mark that stands
+pub record History : Type 0 where
+  pub now : State
+  pub marks : List ℕ
+  pub books : List Book
 
 -- what a call leaves
 abbrev pub called : Called → Option ℕ → List Condition → Book → State
@@ -160,15 +202,34 @@ acted ρ q s =
     called (requestCall (s .graph) q) (requestMeans ρ (handed ρ (s .graph) (s .book .lines)) q)
     (requestConditions (handed ρ (s .graph) (s .book .lines)) q) (s .book)
 
--- one call
-abbrev pub act : Env → Action → State → State
-act ρ (request q) s = acted ρ (patterned q) s
-act ρ (retain keep mapping) s = kept (retainCall (s .graph) keep mapping) keep (s .book)
+-- a retain and what it leaves
+abbrev pub retainedBy : Retaining → List ℕ → History → History
+retainedBy c keep h = record { now = kept (c .retention) keep (h .now .book); marks = c .marks; books = dropsAll (c .retention .outcome) (h .books) }
 
--- a list of calls, the latest first, from the region of zeros
-unfoldable pub play : Env → List Action → State
-play ρ [] = record { graph = replicate REGION 0; book = record { lines = []; conditions = [] } }
-play ρ (a ∷ before) = act ρ a (play ρ before)
+-- a mark and what it leaves
+abbrev pub markedBy : Marking → History → History
+markedBy c h = record { now = h .now; marks = c .marks; books = remembers (c .answer) (h .now .book) (h .books) }
+
+-- a return and what it leaves
+abbrev pub returnedBy : Returning → ℕ → History → History
+returnedBy c k h =
+    record { now = record { graph = c .words; book = putBack (c .answer) k (h .books) (h .now .book) }; marks = c .marks; books = forgets (c .answer) k (h .books) }
+
+-- one call
+abbrev pub act : Env → Action → History → History
+act ρ (request q) h = record { now = acted ρ (patterned q) (h .now); marks = h .marks; books = h .books }
+act ρ (retain keep mapping) h = retainedBy (retainCall (h .now .graph) (h .marks) keep mapping) keep h
+act ρ mark h = markedBy (markCall (h .now .graph) (h .marks)) h
+act ρ (returnTo k) h = returnedBy (returnCall (h .now .graph) (h .marks) k) k h
+
+-- a list of calls, the latest first, from the region of zeros and a marks' region
+unfoldable pub play : Env → List ℕ → List Action → History
+play ρ m [] = record { now = record { graph = replicate REGION 0; book = blank }; marks = m; books = [] }
+play ρ m (a ∷ before) = act ρ a (play ρ m before)
+
+-- a marks' region in which no mark stands
+abbrev pub Unmarked : List ℕ → Type 0
+Unmarked m = (length m ≡ MARKS) × (standing m ≡ 0)
 
 -- ---- what demand 3 says
 
@@ -194,15 +255,22 @@ AllRight ρ g [] = Unit {0}
 AllRight ρ g (l ∷ ls) = Right ρ g l × AllRight ρ g ls
 
 -- every line is right, every defined value lies in its node's range, and a node that a retain keeps means what it meant
-pub record Demand3 (ρ : Env) (s : State) : Type 0 where
-  pub lines : AllRight ρ (s .graph) (s .book .lines)
-  pub ranges : (n : ℕ) → n < countOf (s .graph) → (v : ℕ) → value ρ (s .graph) n ≡ some v
-      → (a : Interval) → rangeAt (s .graph) n ≡ some a → (integerOf (typeAt (s .graph) n) v) ∈ a
-  pub retained : (keep mapping : List ℕ) (k : ℕ) → retainCall (s .graph) keep mapping .outcome ≡ retaining.kept k
-      → (n : ℕ) → n < countOf (s .graph) → keeps keep n ≡ true
-      → value ρ (retainCall (s .graph) keep mapping .words) (renumbered keep n) ≡ value ρ (s .graph) n
+pub record Demand3 (ρ : Env) (h : History) : Type 0 where
+  pub lines : AllRight ρ (h .now .graph) (h .now .book .lines)
+  pub ranges : (n : ℕ) → n < countOf (h .now .graph) → (v : ℕ) → value ρ (h .now .graph) n ≡ some v
+      → (a : Interval) → rangeAt (h .now .graph) n ≡ some a → (integerOf (typeAt (h .now .graph) n) v) ∈ a
+  pub retained : (keep mapping : List ℕ) (k : ℕ) → retainCall (h .now .graph) (h .marks) keep mapping .retention .outcome ≡ retaining.kept k
+      → (n : ℕ) → n < countOf (h .now .graph) → keeps keep n ≡ true
+      → value ρ (retainCall (h .now .graph) (h .marks) keep mapping .retention .words) (renumbered keep n) ≡ value ρ (h .now .graph) n
 
 -- whatever the values, the mapping of a retain that isn't refused is the book's renumbering
-abbrev pub Renumbers : State → Type 0
-Renumbers s = (keep mapping : List ℕ) (k : ℕ) → retainCall (s .graph) keep mapping .outcome ≡ retaining.kept k
-    → retainCall (s .graph) keep mapping .mapping ≡ renumbering 0 keep
+abbrev pub Renumbers : History → Type 0
+Renumbers h = (keep mapping : List ℕ) (k : ℕ) → retainCall (h .now .graph) (h .marks) keep mapping .retention .outcome ≡ retaining.kept k
+    → retainCall (h .now .graph) (h .marks) keep mapping .retention .mapping ≡ renumbering 0 keep
+
+-- whatever the values, a mark is answered by the number of marks that stand before it, up to sixteen, and a return is refused only if its mark doesn't stand
+pub record Marks (h : History) : Type 0 where
+  pub set : length (h .books) < 16 → markCall (h .now .graph) (h .marks) .answer ≡ marking.number (length (h .books))
+  pub full : 16 ≤ length (h .books) → markCall (h .now .graph) (h .marks) .answer ≡ marking.refused no.Marks
+  pub back : (k : ℕ) → k < length (h .books) → returnCall (h .now .graph) (h .marks) k .answer ≡ calls.done
+  pub gone : (k : ℕ) → length (h .books) ≤ k → returnCall (h .now .graph) (h .marks) k .answer ≡ calls.refused no.Mark

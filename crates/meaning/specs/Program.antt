@@ -8,13 +8,13 @@ use lib.ListN.{replicate}
 use Rattle.word.specs.Option.{isSome}
 use Rattle.graph.specs.Layout.{REGION}
 use Rattle.native.specs.Perform.{requestCall}
-use Rattle.native.specs.Retain.{retainCall}
+use Rattle.mark.specs.Mark.{retainCall}
 use Rattle.record.specs.Record as records
 use Rattle.record.specs.Record.{Bytes, Asked, asked}
 use Rattle.record.specs.Line.{BAD, answerLine, retainLine}
 use Rattle.record.specs.Perform.{Effect, effectCall}
 use Rattle.meaning.specs.Value.{Env}
-use Rattle.meaning.specs.Book.{Action, request, retain, patterned, play}
+use Rattle.meaning.specs.Book.{Action, request, retain, mark, returnTo, patterned, play, Unmarked}
 
 -- ---- what records print and leave
 
@@ -66,15 +66,17 @@ callsOf (r ∷ before) = cond (isOver before) (callsOf before) (withCall (asked 
 
 -- ---- their answers
 
--- the line of a call's answer on a graph
-abbrev pub lineOf : List ℕ → Action → List ℕ
-lineOf g (request q) = answerLine (requestCall g (patterned q) .answer)
-lineOf g (retain keep mapping) = retainLine (retainCall g keep mapping .outcome)
+-- the line of a call's answer on a graph and its marks' region; no record is a mark or a return
+abbrev pub lineOf : List ℕ → List ℕ → Action → List ℕ
+lineOf g w (request q) = answerLine (requestCall g (patterned q) .answer)
+lineOf g w (retain keep mapping) = retainLine (retainCall g w keep mapping .retention .outcome)
+lineOf g w mark = []
+lineOf g w (returnTo k) = []
 
 -- the answers to a list of calls, each on the graph that the ones before it left, a line for each
-unfoldable pub linesOf : Env → List Action → List ℕ
-linesOf ρ [] = []
-linesOf ρ (a ∷ before) = linesOf ρ before ++ lineOf (play ρ before .graph) a
+unfoldable pub linesOf : Env → List ℕ → List Action → List ℕ
+linesOf ρ w [] = []
+linesOf ρ w (a ∷ before) = linesOf ρ w before ++ lineOf (play ρ w before .now .graph) (play ρ w before .marks) a
 
 -- ---- what the program's theorem says
 
@@ -83,14 +85,16 @@ abbrev pub AllBytes : List (List ℕ) → Type 0
 AllBytes [] = Unit {0}
 AllBytes (r ∷ rs) = Bytes r × AllBytes rs
 
--- the region is that of the list of calls, each line is its call's answer, and a bad record has the last
-pub record Plays (ρ : Env) (rs : List (List ℕ)) (s : Run) : Type 0 where
-  pub graph : s .graph ≡ play ρ (callsOf rs) .graph
-  pub text : s .text ≡ linesOf ρ (callsOf rs) ++ cond (isOver rs) BAD []
+-- the region is that of the list of calls beside a marks' region w, each line is its call's answer, and a bad record has the last
+pub record Plays (ρ : Env) (w : List ℕ) (rs : List (List ℕ)) (s : Run) : Type 0 where
+  pub graph : s .graph ≡ play ρ w (callsOf rs) .now .graph
+  pub text : s .text ≡ linesOf ρ w (callsOf rs) ++ cond (isOver rs) BAD []
   pub over : s .isOver ≡ isOver rs
 
--- a region that a list of calls leaves from the empty graph
+-- a region that a list of calls leaves from the empty graph with no mark standing
 pub record Grown (g : List ℕ) : Type 0 where
   pub env : Env
+  pub marks : List ℕ
+  pub none : Unmarked marks
   pub calls : List Action
-  pub grows : play env calls .graph ≡ g
+  pub grows : play env marks calls .now .graph ≡ g

@@ -13,7 +13,7 @@ use Rattle.answer.specs.Refusal.{refusalNumber}
 
 -- the refusals by their numbers
 abbrev refusals : List Refusal
-refusals = no.Graph ∷ no.Graph ∷ no.Width ∷ no.Id ∷ no.Typing ∷ no.Value ∷ no.Keep ∷ no.Room ∷ no.Units ∷ []
+refusals = no.Graph ∷ no.Graph ∷ no.Width ∷ no.Id ∷ no.Typing ∷ no.Value ∷ no.Keep ∷ no.Room ∷ no.Units ∷ no.Marks ∷ no.Mark ∷ []
 
 refusal-back : (r : Refusal) → getD refusals (refusalNumber r) no.Graph ≡ r
 refusal-back no.Graph = refl
@@ -24,8 +24,10 @@ refusal-back no.Value = refl
 refusal-back no.Keep = refl
 refusal-back no.Room = refl
 refusal-back no.Units = refl
+refusal-back no.Marks = refl
+refusal-back no.Mark = refl
 
-refusal-between : (r : Refusal) → (0 < refusalNumber r) × (refusalNumber r < 9)
+refusal-between : (r : Refusal) → (0 < refusalNumber r) × (refusalNumber r < 11)
 refusal-between no.Graph = (omega arith, omega arith)
 refusal-between no.Width = (omega arith, omega arith)
 refusal-between no.Id = (omega arith, omega arith)
@@ -34,6 +36,8 @@ refusal-between no.Value = (omega arith, omega arith)
 refusal-between no.Keep = (omega arith, omega arith)
 refusal-between no.Room = (omega arith, omega arith)
 refusal-between no.Units = (omega arith, omega arith)
+refusal-between no.Marks = (omega arith, omega arith)
+refusal-between no.Mark = (omega arith, omega arith)
 
 -- an id is below 2 ^ 63
 abbrev pub Small : Response → Type 0

@@ -1,4 +1,4 @@
--- The call of retain: question 6, the nodes left, and the region and the mapping after it.
+-- Retain on a graph's region alone: question 6, the nodes left, and the region and the mapping after it.
 use mathlib.Core.Bool.{cond}
 use mathlib.Core.List.{List}
 use Prim.Native.Nat.{ℕ}

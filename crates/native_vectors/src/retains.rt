@@ -5,7 +5,7 @@ use crate::lines::Fields;
 use crate::region::peek;
 use crate::region::put;
 use native::Retained;
-use native::retain_nodes::retain;
+use native::retain_nodes::retain_unmarked;
 use word::Word;
 
 // The most elements of a keep list or a mapping.
@@ -73,7 +73,7 @@ fn retained_parts(
     if mapping.len() < mapped {
         return MaybeReply::None;
     }
-    let answer = retain(&mut words[0..len], &keep[0..kept], &mut mapping[0..mapped]);
+    let answer = retain_unmarked(&mut words[0..len], &keep[0..kept], &mut mapping[0..mapped]);
     MaybeReply::Some(of_retained(answer))
 }
 

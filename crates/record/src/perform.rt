@@ -24,7 +24,7 @@ use graph::layout::count;
 use graph::well_formed::is_graph;
 use native::Retained;
 use native::perform::call_in_graph;
-use native::retain_nodes::retain_in_graph;
+use native::retain_nodes::retain_unmarked_in_graph;
 
 // Bytes before a record's body.
 const HEADER: usize = 3;
@@ -95,7 +95,7 @@ fn retain_listed(g: &mut [u64], mapping: &mut [u64], keep: &[u8]) -> Retained
     ensures { λ r. ⌜ retention (outcomeOf r) (now (g .exit)) (now (mapping .exit)) ≡ widened (lentWords (now (g .entry)) (now (mapping .entry))) (now (mapping .entry)) (retainInGraph (now (g .entry)) (now (keep .entry)) (take (lentWords (now (g .entry)) (now (mapping .entry))) (now (mapping .entry)))) ⌝ }
 {
     let lent = lent_words(count(g), mapping.len());
-    retain_in_graph(g, keep, &mut mapping[0..lent])
+    retain_unmarked_in_graph(g, keep, &mut mapping[0..lent])
 }
 
 // What a tag and a body ask for.

@@ -14,17 +14,17 @@ count-requires c κs = graph-facts _ (c .before .before .before .before .pre) .l
 lent-words-requires : tie.Need-lent-words-requires
 lent-words-requires c κs = search needs
 
-sub-retain-in-graph : tie.Need-sub-retain-in-graph
-sub-retain-in-graph c = search needs
+sub-retain-unmarked-in-graph : tie.Need-sub-retain-unmarked-in-graph
+sub-retain-unmarked-in-graph c = search needs
 
-part-retain-in-graph-start : tie.Need-part-retain-in-graph-start
-part-retain-in-graph-start c = search needs
+part-retain-unmarked-in-graph-start : tie.Need-part-retain-unmarked-in-graph-start
+part-retain-unmarked-in-graph-start c = search needs
 
-part-retain-in-graph-end : tie.Need-part-retain-in-graph-end
-part-retain-in-graph-end c = search needs
+part-retain-unmarked-in-graph-end : tie.Need-part-retain-unmarked-in-graph-end
+part-retain-unmarked-in-graph-end c = search needs
 
-retain-in-graph-requires : tie.Need-retain-in-graph-requires
-retain-in-graph-requires c κs = search needs
+retain-unmarked-in-graph-requires : tie.Need-retain-unmarked-in-graph-requires
+retain-unmarked-in-graph-requires c κs = search needs
 
 same-length : tie.Need-same-length
 same-length c = search needs
@@ -35,7 +35,7 @@ same-length-2 c = search needs
 returns : tie.Need-returns
 returns c =
     let lent = c .before .before .before .before .before .before .before .lent-words in
-    rw (← c .before .before .before .before .before .before .before .before .count .ensures, ← lent .ensures, sub-zero) (ap (widened (lent .result) (now (c .before .before .before .before .before .before .before .before .before .before .before .before .before .args .mapping))) (rw sub-zero at (c .before .before .before .before .retain-in-graph .ensures)))
+    rw (← c .before .before .before .before .before .before .before .before .count .ensures, ← lent .ensures, sub-zero) (ap (widened (lent .result) (now (c .before .before .before .before .before .before .before .before .before .before .before .before .before .args .mapping))) (rw sub-zero at (c .before .before .before .before .retain-unmarked-in-graph .ensures)))
 
 pub retain-listed-spec : {M : Type 1} → statement M
 retain-listed-spec =
@@ -43,10 +43,10 @@ retain-listed-spec =
     (tie.spec
     count-requires
     lent-words-requires
-    sub-retain-in-graph
-    part-retain-in-graph-start
-    part-retain-in-graph-end
-    retain-in-graph-requires
+    sub-retain-unmarked-in-graph
+    part-retain-unmarked-in-graph-start
+    part-retain-unmarked-in-graph-end
+    retain-unmarked-in-graph-requires
     same-length
     same-length-2
     returns)

@@ -2,8 +2,8 @@ use mathlib.Core.Path.{sym, _∙_}
 use Rattle.graph.proofs.Grown.{graph-facts}
 use Rattle.native.specs.Retain.{kept, retention, retainInGraph}
 use borrow.Author.Needs.{needs}
-use Rattle.native.proofs.retain_nodes.retain_in_graph.Statement.{statement}
-use Rattle.native.proofs.retain_nodes.retain_in_graph.Tie as tie
+use Rattle.native.proofs.retain_nodes.retain_unmarked_in_graph.Statement.{statement}
+use Rattle.native.proofs.retain_nodes.retain_unmarked_in_graph.Tie as tie
 
 is-keep-list-requires : tie.Need-is-keep-list-requires
 is-keep-list-requires c κs = graph-facts (c .before .before .before .before .before .args .g .now) (c .before .before .before .before .before .pre) .length
@@ -33,8 +33,8 @@ returns-2 : tie.Need-returns-2
 unfolding retainInGraph
 returns-2 c = rw (← c .before .is-keep-list .ensures, c .if1 .left)
 
-pub retain-in-graph-spec : {M : Type 1} → statement M
-retain-in-graph-spec =
+pub retain-unmarked-in-graph-spec : {M : Type 1} → statement M
+retain-unmarked-in-graph-spec =
     tie.close
     (tie.spec
     is-keep-list-requires
