@@ -25,11 +25,22 @@ extern "C" {
 // one: an answered id may be that of an older node, and one call may add several nodes. Operands are used as what their ids
 // resolve to (scalars_resolve).
 //
+// Marks
+//
+// A mark remembers a graph, so that a translator can assume a guard, build one arm of a branch, return and build the other arm without
+// the guard. Marks stand in a second region that the caller owns, of SCALARS_MARKS_REGION words. It is handed to the calls about
+// marks and to scalars_retain, which drops all marks; the other calls neither read nor write it.
+//
+// Word 0 is the number of marks that stand, at most SCALARS_MARKS. They are numbered from 0 in the order in which they were set. Mark k
+// has the SCALARS_MARK_WORDS words from word scalars_mark_start(k) on: the number of nodes at the mark, then for each of these nodes
+// its word SCALARS_WORD_ALIAS as it was. All other words, those past the marks that stand and past a mark's nodes, are free: they
+// may hold anything, and no call changes them but to set a mark. So a region whose word 0 is 0 has no mark; zeros are one.
+//
 // Answers
 //
 // Every call answers one number of 64 bits: an id (below SCALARS_NODES), SCALARS_DONE, SCALARS_NONE, a number that its comment
 // names, or SCALARS_REFUSED(k): refused, since the answer to question k is no (SCALARS_REFUSAL_.. below). The questions that apply
-// to a call are asked in the order of their numbers, and the first no is answered; of 7 and 8 it is the one met first.
+// to a call are asked in the order of their numbers, 9 and 10 after 3, and the first no is answered; of 7 and 8 it is the one met first.
 // After a refusal every lent word is as it was before the call. SCALARS_NONE is no refusal: there is no such node or value, and
 // nodes that were added on the way stay.
 //
@@ -46,25 +57,29 @@ extern "C" {
 //
 // Calls whose name ends in _in_graph
 //
-// Each call that takes the region, but for scalars_is_graph, has a twin with this ending, which does not ask question 1 and so saves
-// the time of reading the whole region. A twin requires a graph. It is for a caller who owns the region and has changed it only by
-// these calls, starting from zeros; such a region always passes question 1. On any other region nothing is promised of a twin, not
-// even that it touches lent words alone: memory safety is at risk. The calls without this ending take regions and slices of any
-// content and length.
+// Each call that takes the region, but for scalars_is_graph and scalars_is_marked, has a twin with this ending, which does not ask
+// question 1 and so saves the time of reading the whole region. A twin requires a graph, and one that takes the marks' region too
+// requires that both pass question 1 together (scalars_is_marked). It is for a caller who owns the regions and has changed them only by
+// these calls, starting from zeros, and hands a graph's calls always the same marks' region; such regions always pass question 1.
+// On any others nothing is promised of a twin, not even that it touches lent words alone: memory safety is at risk. The calls without
+// this ending take regions and slices of any content and length.
 //
 // Stack
 //
 // No call was found that needs more than 400 KB: 384 bytes for each of its 1,024 units (a unit is one entry into a builder), and
 // 8 KB. This is measured and not proved; tests/stack/run measures it again, and runs the worst calls found with a stack of 512 KB.
 
-// Sizes, in words but for SCALARS_NODES and SCALARS_WIDEST.
+// Sizes, in words but for SCALARS_NODES, SCALARS_MARKS and SCALARS_WIDEST.
 enum {
-    SCALARS_REGION = 6145,   // the region
-    SCALARS_NODES = 512,     // the most nodes of a graph
-    SCALARS_NODE_WORDS = 12, // a node
-    SCALARS_VALUE_WORDS = 2, // a value, low half first
-    SCALARS_GUARD_WORDS = 5, // what scalars_guard writes
-    SCALARS_WIDEST = 128     // the widest Bits
+    SCALARS_REGION = 6145,       // the region
+    SCALARS_NODES = 512,         // the most nodes of a graph
+    SCALARS_NODE_WORDS = 12,     // a node
+    SCALARS_MARKS_REGION = 8209, // the marks' region
+    SCALARS_MARKS = 16,          // the most marks that stand
+    SCALARS_MARK_WORDS = 513,    // a mark: its number of nodes, and an alias word for each node that there can be
+    SCALARS_VALUE_WORDS = 2,     // a value, low half first
+    SCALARS_GUARD_WORDS = 5,     // what scalars_guard writes
+    SCALARS_WIDEST = 128         // the widest Bits
 };
 
 // The words of a node. The ends of the range are signed 128-bit numbers.
@@ -146,14 +161,16 @@ enum {
 
 // The refusals, by the number of the question whose answer is no.
 enum {
-    SCALARS_REFUSAL_GRAPH = 1,  // the region is no graph
+    SCALARS_REFUSAL_GRAPH = 1,  // the region is no graph, or the marks' region does not go with it
     SCALARS_REFUSAL_WIDTH = 2,  // a width is above SCALARS_WIDEST
     SCALARS_REFUSAL_ID = 3,     // an id is not below the number of nodes
     SCALARS_REFUSAL_TYPING = 4, // a code or truth value names nothing, or the operator does not take these types
     SCALARS_REFUSAL_VALUE = 5,  // a Bool constant is above 1, or an input's range is empty or not inside its type
     SCALARS_REFUSAL_KEEP = 6,   // retain: a list has another length than the nodes, or an operand of a kept node is not kept
     SCALARS_REFUSAL_ROOM = 7,   // there would be more than SCALARS_NODES nodes
-    SCALARS_REFUSAL_UNITS = 8   // the call would need more than 1,024 units, which are entries into builders
+    SCALARS_REFUSAL_UNITS = 8,  // the call would need more than 1,024 units, which are entries into builders
+    SCALARS_REFUSAL_MARKS = 9,  // SCALARS_MARKS marks stand
+    SCALARS_REFUSAL_MARK = 10   // the mark named does not stand
 };
 
 // The answers that are no ids. No two answers of one call share a number.
@@ -162,21 +179,25 @@ enum {
 #define SCALARS_NONE UINT64_MAX
 #define SCALARS_REFUSED(k) (UINT64_MAX - (k))
 
-// Is this answer of a call that answers ids one? 1 or 0. (scalars_retain answers a number of nodes.)
+// Is this answer of a call that answers ids one? 1 or 0. (scalars_retain answers a number of nodes, scalars_mark that of a mark.)
 static inline int scalars_is_id(uint64_t answer) { return answer < SCALARS_NODES; }
 
 // The number of the refusal that an answer is, SCALARS_REFUSAL_..; 0 if it is none.
 static inline int scalars_refusal(uint64_t answer) {
     uint64_t number = UINT64_MAX - answer;
-    return number <= SCALARS_REFUSAL_UNITS ? (int)number : 0;
+    return number <= SCALARS_REFUSAL_MARK ? (int)number : 0;
 }
 
 // The word of the region at which a node's words begin.
 static inline size_t scalars_node_start(uint64_t id) { return (size_t)(1 + SCALARS_NODE_WORDS * id); }
 
+// The word of the marks' region at which a mark's words begin.
+static inline size_t scalars_mark_start(uint64_t mark) { return (size_t)(1 + SCALARS_MARK_WORDS * mark); }
+
 // ---- Calls that change a graph
 //
-// g, g_length: the region and SCALARS_REGION. code, width: a type. All may be refused 1; the comments name the other refusals.
+// g, g_length: the region and SCALARS_REGION. m, m_length: the marks' region and SCALARS_MARKS_REGION. code, width: a type. All may be
+// refused 1; the comments name the other refusals.
 
 // A constant of a type. Of a value for Bits the bits above the width are dropped. Refused 2, 4, 5, 7. Answers an id.
 uint64_t scalars_constant(uint64_t *g, size_t g_length, uint64_t code, uint64_t width, uint64_t low, uint64_t high);
@@ -212,14 +233,24 @@ uint64_t scalars_unsigned_range(uint64_t *g, size_t g_length, uint64_t id, uint6
 
 // From here on the condition, a Bool node, has the value expected (0 or 1). Ranges of the nodes that its comparison says something of
 // are narrowed: such a node gets an alias, a Refine with the narrower range, and later builders use that. It stays so until a
-// retain. Refused 3, 4, 7. Answers SCALARS_DONE, whether or not a range was narrowed.
+// retain, or a return to a mark that was set before. Refused 3, 4, 7. Answers SCALARS_DONE, whether or not a range was narrowed.
 uint64_t scalars_assume_guard(uint64_t *g, size_t g_length, uint64_t condition, uint64_t expected);
 
 // Keeps the nodes whose element of keep is 1, in their order, drops those whose element is 0, and drops all aliases. Both lists have
 // one element for each node. Into mapping goes each node's new id, SCALARS_NONE for a dropped one: ids that the caller holds are
-// to be replaced by it. Refused 6. Answers the number of nodes left, up to SCALARS_NODES.
-uint64_t scalars_retain(uint64_t *g, size_t g_length, const uint8_t *keep, size_t keep_length,
+// to be replaced by it. No mark stands then, also where every node is kept. Refused 6. Answers the number of nodes left, up to
+// SCALARS_NODES.
+uint64_t scalars_retain(uint64_t *g, size_t g_length, uint64_t *m, size_t m_length, const uint8_t *keep, size_t keep_length,
                         uint64_t *mapping, size_t mapping_length);
+
+// Sets a mark: the number of nodes and their aliases go into the marks' region, and the graph is as it was. Refused 9. Answers the
+// mark's number, which is the number of marks that stood before it, 0 to SCALARS_MARKS - 1.
+uint64_t scalars_mark(const uint64_t *g, size_t g_length, uint64_t *m, size_t m_length);
+
+// Returns to a mark that stands: the nodes added since are gone, with their ids, and those from before have the aliases that they had.
+// What guards and declarations since the mark told is no longer taken for true. The mark stays, so it can be returned to again;
+// later ones are dropped. Refused 10. Answers SCALARS_DONE.
+uint64_t scalars_return_to(uint64_t *g, size_t g_length, uint64_t *m, size_t m_length, uint64_t mark);
 
 // ---- Twins of the calls that change a graph: they require a graph
 //
@@ -256,17 +287,28 @@ uint64_t scalars_unsigned_range_in_graph(uint64_t *g, size_t g_length, uint64_t 
 uint64_t scalars_assume_guard_in_graph(uint64_t *g, size_t g_length, uint64_t condition, uint64_t expected);
 
 // As scalars_retain. Refused 6: its lists may have any content and length.
-uint64_t scalars_retain_in_graph(uint64_t *g, size_t g_length, const uint8_t *keep, size_t keep_length,
+uint64_t scalars_retain_in_graph(uint64_t *g, size_t g_length, uint64_t *m, size_t m_length, const uint8_t *keep, size_t keep_length,
                                  uint64_t *mapping, size_t mapping_length);
+
+// As scalars_mark. Refused 9.
+uint64_t scalars_mark_in_graph(const uint64_t *g, size_t g_length, uint64_t *m, size_t m_length);
+
+// As scalars_return_to. Refused 10.
+uint64_t scalars_return_to_in_graph(uint64_t *g, size_t g_length, uint64_t *m, size_t m_length, uint64_t mark);
 
 // ---- Calls that read
 //
-// The region is not changed. All but scalars_is_graph may be refused 1; the comments name the other refusals.
+// The region is not changed. All but scalars_is_graph and scalars_is_marked may be refused 1; the comments name the other refusals.
 
 // Question 1: is the region a graph? It asks for the length, the layout, at most SCALARS_NODES nodes, widths at most SCALARS_WIDEST,
 // slice offsets at most 127, operands below their node, aliases above their node and below the number of nodes, and ranges that
 // are not empty and inside their type. Answers 1 or 0.
 uint64_t scalars_is_graph(const uint64_t *g, size_t g_length);
+
+// Question 1 of a graph with its marks, which the calls that take both regions ask: is the region a graph, has the marks' region its
+// length, do at most SCALARS_MARKS marks stand, has no mark more nodes than the next one or, the last, than the graph, and is each
+// alias word of a mark 0 or that of a node above its own and below the mark's number of nodes? Answers 1 or 0.
+uint64_t scalars_is_marked(const uint64_t *g, size_t g_length, const uint64_t *m, size_t m_length);
 
 // The value of a constant, into a slice of SCALARS_VALUE_WORDS. The node itself is read, not what it resolves to. Refused 3. Answers 1,
 // or SCALARS_NONE if the node is no constant.

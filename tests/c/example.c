@@ -1,4 +1,5 @@
-// An example for include/scalars.h: a reading from the bus is summed, compared, guarded and cut into fields, and the graph is cleaned up.
+// An example for include/scalars.h: a reading from the bus is summed, compared, guarded and cut into fields, both arms of a branch are
+// built, and the graph is cleaned up.
 // Every answer is checked; the first wrong one ends the program with its line. Built and run by tests/c/run.
 #include "scalars.h"
 #include <inttypes.h>
@@ -10,6 +11,9 @@
 
 // The empty graph: a static array begins as zeros.
 static uint64_t region[SCALARS_REGION];
+
+// Its marks: none stands.
+static uint64_t marks[SCALARS_MARKS_REGION];
 
 static void check(int holds, const char *condition, int line) {
     if (holds) return;
@@ -113,6 +117,38 @@ static uint64_t swap_bytes(uint64_t frame) {
     return swapped;
 }
 
+// One arm of a branch: x is below 100 or it is not, as assumed. Answers the value that x < 100 folds to.
+static uint64_t build_arm(uint64_t x, uint64_t below, uint64_t assumed) {
+    CHECK(scalars_assume_guard(region, SCALARS_REGION, below, assumed) == SCALARS_DONE);
+    uint64_t folded = known(is_less(x, constant(100)));
+    printf("in the arm where x < 100 is %" PRIu64 " it folds to %" PRIu64 "; node %" PRIu64 " stands for x\n",
+           assumed, folded, scalars_resolve(region, SCALARS_REGION, x));
+    return folded;
+}
+
+// Both arms of a branch, each without what the other assumes: a mark before the first, and a return to it.
+static void branch(uint64_t x) {
+    static uint64_t before[SCALARS_REGION];
+    uint64_t below = is_less(x, constant(100));
+    memcpy(before, region, sizeof region);
+    uint64_t mark = scalars_mark(region, SCALARS_REGION, marks, SCALARS_MARKS_REGION);
+    CHECK(mark == 0 && marks[0] == 1);
+    CHECK(marks[scalars_mark_start(mark)] == region[0]);
+    for (uint64_t arm = 0; arm <= 1; arm++) {
+        CHECK(build_arm(x, below, arm) == arm);
+        CHECK(memcmp(before, region, sizeof region) != 0);
+        // A later mark is dropped by the return.
+        CHECK(scalars_mark(region, SCALARS_REGION, marks, SCALARS_MARKS_REGION) == mark + 1);
+        CHECK(scalars_return_to(region, SCALARS_REGION, marks, SCALARS_MARKS_REGION, mark) == SCALARS_DONE);
+        CHECK(memcmp(before, region, sizeof region) == 0);
+    }
+    CHECK(is_less(x, constant(100)) == below);
+    uint64_t answer = scalars_return_to(region, SCALARS_REGION, marks, SCALARS_MARKS_REGION, mark + 1);
+    CHECK(scalars_refusal(answer) == SCALARS_REFUSAL_MARK);
+    CHECK(scalars_is_marked(region, SCALARS_REGION, marks, SCALARS_MARKS_REGION) == 1);
+    printf("after the return x < 100 is node %" PRIu64 " again, and mark %" PRIu64 " stands no more\n", below, mark + 1);
+}
+
 // What an operator gives on values, without a graph: 65535 + 1 is 0 in Bits(16), and nothing is divided by 0.
 static void evaluate(void) {
     uint64_t value[SCALARS_VALUE_WORDS];
@@ -160,10 +196,12 @@ static void clean_up(uint64_t moved, uint64_t swapped, uint64_t below) {
     uint64_t mapping[SCALARS_NODES];
     uint64_t nodes = region[0];
     keep[moved] = keep[swapped] = 1;
-    CHECK(scalars_retain(region, SCALARS_REGION, keep, nodes, mapping, nodes) == SCALARS_REFUSED(SCALARS_REFUSAL_KEEP));
+    uint64_t left = scalars_retain(region, SCALARS_REGION, marks, SCALARS_MARKS_REGION, keep, nodes, mapping, nodes);
+    CHECK(left == SCALARS_REFUSED(SCALARS_REFUSAL_KEEP) && marks[0] == 1);
     keep_operands(keep);
-    uint64_t left = scalars_retain(region, SCALARS_REGION, keep, nodes, mapping, nodes);
+    left = scalars_retain(region, SCALARS_REGION, marks, SCALARS_MARKS_REGION, keep, nodes, mapping, nodes);
     CHECK(left == region[0] && left < nodes);
+    CHECK(marks[0] == 0); // no mark stands after a retain
     CHECK(mapping[below] == SCALARS_NONE);
     CHECK(mapping[moved] < left && mapping[swapped] < left);
     CHECK(region[scalars_node_start(mapping[moved]) + SCALARS_WORD_OPERATION] == SCALARS_ADD);
@@ -178,6 +216,7 @@ int main(void) {
     uint64_t below = narrow(x);
     match_guard(below, x);
     uint64_t swapped = swap_bytes(frame);
+    branch(x);
     evaluate();
     refuse(x);
     clean_up(moved, swapped, below);
