@@ -9,7 +9,8 @@ use std::ops::Deref;
 /// What a graph shows of itself, to be read through it: `graph.scalars`.
 #[derive(Debug)]
 pub struct Nodes {
-    /// The nodes by their ids. A call adds its new nodes at the end; [`Graph::retain`] makes them anew.
+    /// The nodes by their ids. A call adds its new nodes at the end, [`Graph::return_to`] takes back those since the mark;
+    /// [`Graph::retain`] makes them anew.
     pub scalars: Vec<Scalar>,
 }
 
@@ -82,6 +83,7 @@ impl fmt::Debug for Graph {
         f.debug_struct("Graph")
             .field("scalars", &self.scalars)
             .field("aliases", &aliases)
+            .field("marks", &self.region.marks().collect::<Vec<_>>())
             .finish()
     }
 }
@@ -275,7 +277,8 @@ impl Graph {
         self.grown(id_or_none(answer))
     }
 
-    /// Takes a condition to be true or false from here on, and narrows ranges by it.
+    /// Takes a condition to be true or false from here on, and narrows ranges by it. It stays so until a [`Graph::retain`],
+    /// or a [`Graph::return_to`] to a mark that was set before.
     ///
     /// ```
     /// use scalars::{Binary, Graph, Range, ScalarType};
@@ -330,7 +333,7 @@ impl Graph {
         value_or_none(self.region.literal(value as u64))
     }
 
-    /// Keeps the nodes whose element is true and drops the others and all aliases. Answers each node's new id,
+    /// Keeps the nodes whose element is true and drops the others, all aliases and all marks. Answers each node's new id,
     /// `usize::MAX` for a dropped one.
     ///
     /// ```
@@ -357,6 +360,69 @@ impl Graph {
         granted(self.region.retain(keep, &mut mapping))?;
         self.nodes.scalars.clear();
         Ok(self.grown(mapping))
+    }
+
+    /// Sets a mark, which remembers the graph as it is, and answers its number: how many marks stood before it.
+    ///
+    /// A translator that meets a branch sets a mark, assumes the condition, builds one arm, returns to the mark and builds
+    /// the other arm without it:
+    ///
+    /// ```
+    /// use scalars::{Binary, Graph, ScalarId, ScalarType};
+    ///
+    /// fn is_below(graph: &mut Graph, x: ScalarId, limit: ScalarId) -> ScalarId {
+    ///     graph.binary(ScalarType::Bool, Binary::LessUnsigned, x, limit).unwrap()
+    /// }
+    ///
+    /// let mut graph = Graph::default();
+    /// let x = graph.input(0, ScalarType::Bits(8), None);
+    /// let five = graph.constant(ScalarType::Bits(8), 5);
+    /// let condition = is_below(&mut graph, x, five);
+    ///
+    /// let mark = graph.mark();
+    /// graph.assume_guard(condition, true);
+    /// let known = is_below(&mut graph, x, five);
+    /// assert_eq!(graph.literal(known), Some(1));
+    ///
+    /// graph.return_to(mark);
+    /// assert_eq!(graph.scalars.len(), 3);
+    /// let open = is_below(&mut graph, x, five);
+    /// assert_eq!(graph.literal(open), None);
+    /// assert_eq!(open, condition);
+    /// ```
+    ///
+    /// # Panics
+    /// If it is refused: 9.
+    #[track_caller]
+    pub fn mark(&mut self) -> usize {
+        expected(self.try_mark())
+    }
+
+    /// As [`Graph::mark`], with the refusal as an answer.
+    pub fn try_mark(&mut self) -> Result<usize, Refusal> {
+        granted(self.region.mark()).map(|mark| mark as usize)
+    }
+
+    /// Makes the graph what it was at a mark: the nodes added since are gone, and those from before have the aliases that
+    /// they had. Guards and declarations since the mark no longer count. The mark stays, and later ones are dropped.
+    ///
+    /// # Panics
+    /// If it is refused: 10.
+    #[track_caller]
+    pub fn return_to(&mut self, mark: usize) {
+        expected(self.try_return_to(mark));
+    }
+
+    /// As [`Graph::return_to`], with the refusal as an answer.
+    pub fn try_return_to(&mut self, mark: usize) -> Result<(), Refusal> {
+        granted(self.region.return_to(mark as u64))?;
+        self.nodes.scalars.truncate(self.region.count());
+        Ok(())
+    }
+
+    /// How many marks stand: the number that [`Graph::mark`] would answer, unless it is refused.
+    pub fn marks(&self) -> usize {
+        self.region.marks().len()
     }
 
     /// The node that stands for this one since a guard, if one does: one step of [`Graph::resolve`].

@@ -1,6 +1,6 @@
 //! The proved scalar graph for Rust, with the names and shapes of `Graph` in VMLabDev/vmlab-hypervisor.
 //!
-//! Every call is one call of the proved library (`crates/export` of this repository), on a region that [`Graph`] owns.
+//! Every call is one call of the proved library (`crates/export` of this repository), on regions that [`Graph`] owns.
 //! What is proved of the library's calls (docs/CALLS.md, docs/PROOF.md) is not proved of this crate, which is tested: by
 //! its own examples, by the differential driver, and by the original's linear.rs compiled against it.
 //!
@@ -12,6 +12,7 @@
 //! - A call that the original has no answer for is refused, and the graph is as it was: [`Refusal`]. Methods with the
 //!   original's shape panic with the refusal's words, their twins `try_..` answer it.
 //! - `graph.scalars` is read and cannot be changed.
+//! - A [`Graph`] has marks: [`Graph::mark`] remembers it, [`Graph::return_to`] makes it what it was.
 //! - `guard` and `Guard`, which stand in the original's module `linear`, stand here and in [`linear`].
 mod answer;
 mod evaluate;

@@ -1,10 +1,16 @@
-//! The functions of the proved library, and the region that they work on. All `unsafe` of this crate stands here.
+//! The functions of the proved library, and the regions that they work on. All `unsafe` of this crate stands here.
 use crate::types::{WORDS, halves};
 
 /// The most nodes of a graph.
 pub(crate) const NODES: usize = 512;
 /// The words of a graph: the number of its nodes, and twelve for each.
 const REGION: usize = 1 + WORDS * NODES;
+/// The most marks that stand.
+const MOST: usize = 16;
+/// The words of a mark: the number of its nodes, and an alias word for each node that there can be.
+const SPAN: usize = 1 + NODES;
+/// The words of the marks' region: the number of marks that stand, and the words of each.
+const MARKS: usize = 1 + MOST * SPAN;
 
 // An id and a word of the library are the same size, so a list of ids can be lent as one of words.
 const _: () = assert!(size_of::<usize>() == size_of::<u64>());
@@ -89,10 +95,25 @@ mod exported {
         pub fn scalars_retain_in_graph(
             g: *mut u64,
             words: usize,
+            m: *mut u64,
+            m_words: usize,
             keep: *const u8,
             keep_len: usize,
             mapping: *mut u64,
             mapping_len: usize,
+        ) -> u64;
+        pub fn scalars_mark_in_graph(
+            g: *const u64,
+            words: usize,
+            m: *mut u64,
+            m_words: usize,
+        ) -> u64;
+        pub fn scalars_return_to_in_graph(
+            g: *mut u64,
+            words: usize,
+            m: *mut u64,
+            m_words: usize,
+            mark: u64,
         ) -> u64;
         pub fn scalars_resolve_in_graph(g: *const u64, words: usize, id: u64) -> u64;
         pub fn scalars_literal_in_graph(
@@ -142,35 +163,82 @@ mod exported {
     }
 }
 
-/// The words of a graph. They begin as zeros, the empty graph, and the methods here alone change them, each by one call
-/// of the library. The theorem `grown-graph` (crates/meaning/proofs/Demand3.antt) says of every list of calls from the
-/// empty graph that the region left passes question 1. So this is always a graph, and the functions for a caller who
-/// knows that can be used, which do not ask.
-#[derive(Clone)]
-pub(crate) struct Region(Box<[u64; REGION]>);
+fn zeros<const N: usize>() -> Box<[u64; N]> {
+    let words: Result<Box<[u64; N]>, _> = vec![0; N].into_boxed_slice().try_into();
+    words.expect("it has this length")
+}
 
-/// A call that changes the region.
+/// The words of the marks' region. They are made when a call first needs them, since most graphs have no marks, and begin
+/// as zeros: no mark stands.
+struct Marks(Option<Box<[u64; MARKS]>>);
+
+impl Marks {
+    fn lent(&mut self) -> &mut [u64; MARKS] {
+        self.0.get_or_insert_with(zeros)
+    }
+
+    /// The number of marks that stand, and their words.
+    fn standing(&self) -> &[u64] {
+        match &self.0 {
+            Some(words) => &words[..1 + SPAN * words[0] as usize],
+            None => &[0],
+        }
+    }
+}
+
+impl Clone for Marks {
+    /// Words past the marks that stand are free, so they are not copied.
+    fn clone(&self) -> Self {
+        let standing = self.standing();
+        if standing[0] == 0 {
+            return Marks(None);
+        }
+        let mut words = zeros::<MARKS>();
+        words[..standing.len()].copy_from_slice(standing);
+        Marks(Some(words))
+    }
+}
+
+/// The words of a graph and of its marks. They begin as zeros, the empty graph with no mark, and the methods here alone
+/// change them, each by one call of the library. The theorem `grown-graph` (crates/meaning/proofs/Demand3.antt) says of
+/// every list of calls from there that the regions left pass question 1. So this is always a graph with its marks, and
+/// the functions for a caller who knows that can be used, which do not ask.
+#[derive(Clone)]
+pub(crate) struct Region {
+    graph: Box<[u64; REGION]>,
+    marks: Marks,
+}
+
+/// A call that changes the graph's region.
 macro_rules! change {
     ($region:expr, $function:ident, $($word:expr),*) => {
         // SAFETY: the region is a graph (see `Region`), lent whole and to nobody else, and the other arguments are numbers.
-        unsafe { exported::$function($region.0.as_mut_ptr(), REGION, $($word),*) }
+        unsafe { exported::$function($region.graph.as_mut_ptr(), REGION, $($word),*) }
     };
 }
 
 impl Region {
     pub fn empty() -> Self {
-        let words: Result<Box<[u64; REGION]>, _> = vec![0; REGION].into_boxed_slice().try_into();
-        Region(words.expect("it has this length"))
+        Region {
+            graph: zeros(),
+            marks: Marks(None),
+        }
     }
 
     pub fn count(&self) -> usize {
-        self.0[0] as usize
+        self.graph[0] as usize
+    }
+
+    /// The number of nodes at each mark that stands.
+    pub fn marks(&self) -> impl ExactSizeIterator<Item = usize> {
+        let marks = self.marks.standing()[1..].chunks_exact(SPAN);
+        marks.map(|words| words[0] as usize)
     }
 
     /// The words of a node below the count.
     pub fn node(&self, id: usize) -> &[u64; WORDS] {
         let first = 1 + WORDS * id;
-        let words = &self.0[first..first + WORDS];
+        let words = &self.graph[first..first + WORDS];
         words.try_into().expect("it has this length")
     }
 
@@ -255,12 +323,15 @@ impl Region {
     pub fn retain(&mut self, keep: &[bool], mapping: &mut [usize]) -> u64 {
         let (list, length) = (keep.as_ptr().cast::<u8>(), keep.len());
         let (ids, ids_length) = (mapping.as_mut_ptr().cast::<u64>(), mapping.len());
-        // SAFETY: the region is a graph (see `Region`). The three slices are lent whole and do not overlap. A bool is a
-        // byte of 0 or 1, and a usize has the size of a u64 (asserted above); every u64 is a usize.
+        let marks = self.marks.lent().as_mut_ptr();
+        // SAFETY: the regions are a graph with its marks (see `Region`). The four slices are lent whole and do not overlap.
+        // A bool is a byte of 0 or 1, and a usize has the size of a u64 (asserted above); every u64 is a usize.
         unsafe {
             exported::scalars_retain_in_graph(
-                self.0.as_mut_ptr(),
+                self.graph.as_mut_ptr(),
                 REGION,
+                marks,
+                MARKS,
                 list,
                 length,
                 ids,
@@ -269,16 +340,29 @@ impl Region {
         }
     }
 
+    pub fn mark(&mut self) -> u64 {
+        let (graph, marks) = (self.graph.as_ptr(), self.marks.lent().as_mut_ptr());
+        // SAFETY: the regions are a graph with its marks (see `Region`), lent whole and to nobody else, and the graph's is
+        // not written.
+        unsafe { exported::scalars_mark_in_graph(graph, REGION, marks, MARKS) }
+    }
+
+    pub fn return_to(&mut self, mark: u64) -> u64 {
+        let (graph, marks) = (self.graph.as_mut_ptr(), self.marks.lent().as_mut_ptr());
+        // SAFETY: the regions are a graph with its marks (see `Region`), lent whole and to nobody else; any number will do.
+        unsafe { exported::scalars_return_to_in_graph(graph, REGION, marks, MARKS, mark) }
+    }
+
     pub fn resolve(&self, id: u64) -> u64 {
         // SAFETY: the region is a graph (see `Region`), lent whole, and the call writes nothing.
-        unsafe { exported::scalars_resolve_in_graph(self.0.as_ptr(), REGION, id) }
+        unsafe { exported::scalars_resolve_in_graph(self.graph.as_ptr(), REGION, id) }
     }
 
     /// The call's answer, and the two words that it may have written.
     pub fn literal(&self, id: u64) -> (u64, [u64; 2]) {
         // SAFETY: the region is a graph (see `Region`), lent whole, and only the lent words are written.
         written(|out, length| unsafe {
-            exported::scalars_literal_in_graph(self.0.as_ptr(), REGION, id, out, length)
+            exported::scalars_literal_in_graph(self.graph.as_ptr(), REGION, id, out, length)
         })
     }
 
@@ -288,7 +372,7 @@ impl Region {
         // SAFETY: the region is a graph (see `Region`), lent whole, and only the lent words are written.
         written(|out, length| unsafe {
             exported::scalars_guard_in_graph(
-                self.0.as_ptr(),
+                self.graph.as_ptr(),
                 REGION,
                 condition,
                 expected,

@@ -21,9 +21,13 @@ pub enum Refusal {
     Room,
     /// 8: 1,024 entries into a builder do not suffice.
     Units,
+    /// 9: sixteen marks stand.
+    Marks,
+    /// 10: the mark named does not stand.
+    Mark,
 }
 
-const REFUSALS: [Refusal; 8] = [
+const REFUSALS: [Refusal; 10] = [
     Refusal::Region,
     Refusal::Width,
     Refusal::Id,
@@ -32,6 +36,8 @@ const REFUSALS: [Refusal; 8] = [
     Refusal::Keep,
     Refusal::Room,
     Refusal::Units,
+    Refusal::Marks,
+    Refusal::Mark,
 ];
 
 impl Refusal {
@@ -60,6 +66,8 @@ impl Refusal {
             }
             Refusal::Room => "there is no room for another node: a graph holds 512",
             Refusal::Units => "the call needs more than 1,024 steps",
+            Refusal::Marks => "sixteen marks stand already",
+            Refusal::Mark => "the mark does not stand",
         }
     }
 }

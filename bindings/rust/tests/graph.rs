@@ -1,4 +1,4 @@
-// The binding from outside: what a graph is, every refusal with the graph as it was, clones, retains and pictures.
+// The binding from outside: what a graph is, every refusal with the graph as it was, clones, retains, marks and pictures.
 use scalars::ScalarType::{Bits, Bool, Integer};
 use scalars::{Binary, Graph, Operation, Range, Refusal, Scalar, Unary, mask};
 use std::fmt::{Debug, Display};
@@ -133,6 +133,95 @@ fn a_retain_renumbers_and_forgets_guards() {
     };
     assert_eq!(graph.scalars[3], expected);
     assert_eq!(graph.resolve(0), 0);
+}
+
+#[test]
+fn a_return_gives_back_nodes_and_aliases() {
+    let mut graph = small();
+    graph.assume_guard(3, true);
+    let before = format!("{graph}");
+    assert_eq!(graph.mark(), 0);
+    let limit = graph.constant(Bits(8), 2);
+    let below = graph.binary(Bool, Binary::LessUnsigned, 0, limit).unwrap();
+    graph.assume_guard(below, true);
+    assert_eq!(graph.scalars.len(), 8);
+    for _ in 0..2 {
+        graph.return_to(0);
+        assert_eq!(format!("{graph}"), before);
+        assert_eq!(graph.scalars.len(), 5);
+        assert_eq!(graph.constant(Bits(8), 2), 5);
+    }
+}
+
+// After a retain of all nodes a guard finds its Refine again: the alias leads to a node from before the mark.
+#[test]
+fn a_return_takes_back_an_alias_to_an_old_node() {
+    let mut graph = small();
+    graph.assume_guard(3, true);
+    graph.retain(&[true; 5]);
+    let mark = graph.mark();
+    graph.assume_guard(3, true);
+    assert_eq!((graph.alias(0), graph.scalars.len()), (Some(4), 5));
+    graph.return_to(mark);
+    assert_eq!((graph.alias(0), graph.scalars.len()), (None, 5));
+}
+
+#[test]
+fn marks_are_a_stack_of_sixteen() {
+    let mut graph = small();
+    for mark in 0..16 {
+        assert_eq!(graph.mark(), mark);
+        graph.effect(mark, Bool);
+    }
+    assert_eq!(refused(&mut graph, |g| g.try_mark()), Refusal::Marks);
+    assert_eq!(refused(&mut graph, |g| g.try_return_to(16)), Refusal::Mark);
+    graph.return_to(14);
+    assert_eq!((graph.marks(), graph.scalars.len()), (15, 4 + 14));
+    assert_eq!(refused(&mut graph, |g| g.try_return_to(15)), Refusal::Mark);
+    assert_eq!(graph.mark(), 15);
+    graph.return_to(0);
+    assert_eq!((graph.marks(), graph.scalars.len()), (1, 4));
+    assert_eq!(graph.mark(), 1);
+}
+
+#[test]
+fn a_retain_drops_marks_unless_it_is_refused() {
+    let mut graph = small();
+    graph.mark();
+    assert_eq!(
+        refused(&mut graph, |g| g.try_retain(&[true; 5])),
+        Refusal::Keep
+    );
+    assert_eq!(graph.marks(), 1);
+    graph.return_to(0);
+    graph.retain(&[true; 4]);
+    assert_eq!(graph.marks(), 0);
+    assert_eq!(refused(&mut graph, |g| g.try_return_to(0)), Refusal::Mark);
+    assert_eq!(graph.mark(), 0);
+}
+
+#[test]
+fn a_clone_has_marks_of_its_own() {
+    let mut graph = small();
+    graph.mark();
+    graph.effect(0, Bool);
+    graph.mark();
+    let mut clone = graph.clone();
+    graph.return_to(0);
+    graph.assume_guard(3, true);
+    assert_eq!((clone.marks(), clone.scalars.len()), (2, 5));
+    clone.effect(1, Bool);
+    clone.return_to(1);
+    assert_eq!(clone.scalars.len(), 5);
+    clone.return_to(0);
+    assert_eq!((clone.scalars.len(), clone.resolve(0)), (4, 0));
+    assert_eq!((graph.marks(), graph.alias(0)), (1, Some(4)));
+}
+
+#[test]
+#[should_panic(expected = "refused 10: the mark does not stand")]
+fn a_return_to_no_mark_panics() {
+    small().return_to(0);
 }
 
 #[test]
