@@ -1,10 +1,11 @@
 // The library's side through the Rust binding: on a region that calls have grown from zeros, each call is the binding's,
 // and what it shows of its graph is written back as words. Other regions, and what the binding's types can't say, go to
-// the exported functions.
-use crate::call::{Answer, Call, Ready, Side, binary_of, unary_of};
+// the exported functions. The marks that it holds are seen by returns to them.
+use crate::call::{Answer, Call, Marking, Ready, Side, binary_of, unary_of};
 use crate::library::InGraph;
+use crate::marks::mark_start;
 use crate::native;
-use crate::words::{ALIAS, REGION, WORDS, node_words, start_of};
+use crate::words::{ALIAS, REGION, WORDS, alias_word, node_words, start_of};
 use scalars::{Graph, Refusal, ScalarId};
 use std::cell::Cell;
 
@@ -271,6 +272,8 @@ pub struct Binding {
     graph: Graph,
     // The words of the graph as the binding showed it last.
     words: Vec<u64>,
+    // Those of the marks' region, where marks stand.
+    marks: Vec<u64>,
 }
 
 impl Binding {
@@ -278,15 +281,28 @@ impl Binding {
         Binding {
             graph: Graph::default(),
             words: vec![0; REGION],
+            marks: vec![],
         }
     }
 
-    // Is the region the binding's graph? On zeros it starts anew.
+    // Is the region the binding's graph? On zeros it starts anew, unless its graph is empty and may have marks.
     fn holds(&mut self, region: &[u64]) -> bool {
-        if region.len() == REGION && region.iter().all(|word| *word == 0) {
+        let is_other = region != self.words;
+        if is_other && region.len() == REGION && region.iter().all(|word| *word == 0) {
             *self = Binding::new();
+            return true;
         }
-        region == self.words
+        !is_other
+    }
+
+    // Are both the binding's? Where no mark stands every other word of the marks' region is free.
+    fn holds_both(&mut self, region: &[u64], marks: &[u64]) -> bool {
+        let is_unmarked = marks.first() == Some(&0);
+        self.holds(region)
+            && match self.graph.marks() {
+                0 => is_unmarked,
+                _ => marks == self.marks,
+            }
     }
 
     // Writes the nodes past so many, and every alias, as the binding shows them.
@@ -297,9 +313,51 @@ impl Binding {
             self.words[start_of(id)..][..WORDS].copy_from_slice(&shown(graph, id));
         }
         for id in 0..graph.scalars.len() {
-            self.words[start_of(id) + ALIAS] = graph.alias(id).map_or(0, |other| other as u64 + 1);
+            self.words[start_of(id) + ALIAS] = alias_word(graph.alias(id));
         }
         region.copy_from_slice(&self.words);
+    }
+
+    // Writes what a return to each mark that stands leads to: the number of nodes and their aliases.
+    fn show_marks(&mut self, marks: &mut [u64]) {
+        let standing = self.graph.marks();
+        marks[0] = standing as u64;
+        for mark in 0..standing {
+            let mut clone = self.graph.clone();
+            let words = &mut marks[mark_start(mark)..];
+            if clone.try_return_to(mark).is_err() {
+                words[0] = u64::MAX;
+                continue;
+            }
+            words[0] = clone.scalars.len() as u64;
+            for id in 0..clone.scalars.len() {
+                words[1 + id] = alias_word(clone.alias(id));
+            }
+        }
+        self.marks.clear();
+        if standing > 0 {
+            self.marks.extend_from_slice(marks);
+        }
+    }
+
+    // A call about marks.
+    fn marked(&mut self, region: &mut [u64], marks: &mut [u64], call: Marking) -> Option<Answer> {
+        let answer = match call {
+            Marking::IsMarked => return None,
+            Marking::Mark => match self.graph.try_mark() {
+                Ok(mark) => Answer::Mark(mark as u64),
+                Err(refusal) => Answer::Refused(refusal.number()),
+            },
+            Marking::ReturnTo(mark) => match self.graph.try_return_to(mark as usize) {
+                Ok(()) => Answer::Done,
+                Err(refusal) => Answer::Refused(refusal.number()),
+            },
+        };
+        MADE.set(MADE.get() + 1);
+        self.words.fill(0);
+        self.show(0, region);
+        self.show_marks(marks);
+        Some(answer)
     }
 
     fn made(&mut self, region: &mut [u64], call: &Call) -> Option<Answer> {
@@ -313,7 +371,13 @@ impl Binding {
     }
 
     // A retain, if the binding's types can say it.
-    fn retained(&mut self, region: &mut [u64], keep: &[u8], mapping: &mut [u64]) -> Option<Answer> {
+    fn retained(
+        &mut self,
+        region: &mut [u64],
+        marks: &mut [u64],
+        keep: &[u8],
+        mapping: &mut [u64],
+    ) -> Option<Answer> {
         let keep: Option<Vec<bool>> = keep
             .iter()
             .map(|element| truth((*element).into()))
@@ -323,20 +387,29 @@ impl Binding {
             return None;
         }
         MADE.set(MADE.get() + 1);
-        let ids = match self.graph.try_retain(&keep) {
-            Ok(ids) => ids,
-            Err(refusal) => return Some(Answer::Refused(refusal.number())),
+        let answer = match self.graph.try_retain(&keep) {
+            Ok(ids) => {
+                for (word, id) in mapping.iter_mut().zip(ids) {
+                    *word = id as u64;
+                }
+                Answer::Kept(self.graph.scalars.len() as u64)
+            }
+            Err(refusal) => Answer::Refused(refusal.number()),
         };
-        for (word, id) in mapping.iter_mut().zip(ids) {
-            *word = id as u64;
-        }
         self.words.fill(0);
         self.show(0, region);
-        Some(Answer::Kept(self.words[0]))
+        self.show_marks(marks);
+        Some(answer)
     }
 }
 
 impl Side for Binding {
+    fn start(&mut self, region: &[u64]) {
+        if self.graph.marks() > 0 || region != self.words {
+            *self = Binding::new();
+        }
+    }
+
     fn call(&mut self, region: &mut [u64], call: &Call) -> Answer {
         let made = evaluated(call).or_else(|| {
             if self.holds(region) {
@@ -354,13 +427,28 @@ impl Side for Binding {
         }
     }
 
-    fn retain(&mut self, region: &mut [u64], keep: &[u8], mapping: &mut [u64]) -> Option<Answer> {
-        let made = if self.holds(region) {
-            self.retained(region, keep, mapping)
+    fn marking(&mut self, region: &mut [u64], marks: &mut [u64], call: Marking) -> Option<Answer> {
+        let made = if self.holds_both(region, marks) {
+            self.marked(region, marks, call)
         } else {
             None
         };
-        made.or_else(|| InGraph.retain(region, keep, mapping))
+        made.or_else(|| InGraph.marking(region, marks, call))
+    }
+
+    fn retain(
+        &mut self,
+        region: &mut [u64],
+        marks: &mut [u64],
+        keep: &[u8],
+        mapping: &mut [u64],
+    ) -> Option<Answer> {
+        let made = if self.holds_both(region, marks) {
+            self.retained(region, marks, keep, mapping)
+        } else {
+            None
+        };
+        made.or_else(|| InGraph.retain(region, marks, keep, mapping))
     }
 
     fn ready(&self, call: &Call) -> Option<Ready> {

@@ -122,7 +122,9 @@ pub enum Answer {
     Is(bool),
     // The nodes that a retain left.
     Kept(u64),
-    // A guard is assumed.
+    // The number of the mark that was set.
+    Mark(u64),
+    // A guard is assumed, or a mark returned to.
     Done,
     Guard([u64; GUARD_WORDS]),
     Node([u64; WORDS]),
@@ -175,13 +177,35 @@ impl Ready {
     }
 }
 
+// A call about marks, on the graph's region and the marks'. A retain is handed both too.
+#[derive(Clone, Copy, Debug)]
+pub enum Marking {
+    IsMarked,
+    Mark,
+    ReturnTo(u64),
+}
+
 // One side of the comparison.
 pub trait Side {
+    // The calls that follow are on this region, and no mark stands.
+    fn start(&mut self, _: &[u64]) {}
+
     // Answers a call on the region, and leaves the region as the call does.
     fn call(&mut self, region: &mut [u64], call: &Call) -> Answer;
 
-    // A retain with the lent mapping, where the side has it.
-    fn retain(&mut self, _: &mut [u64], _: &[u8], _: &mut [u64]) -> Option<Answer> {
+    // A call about marks on both regions, where the side has them.
+    fn marking(&mut self, _: &mut [u64], _: &mut [u64], _: Marking) -> Option<Answer> {
+        None
+    }
+
+    // A retain on both regions, with the keep list and the lent mapping, where the side has it.
+    fn retain(
+        &mut self,
+        _: &mut [u64],
+        _: &mut [u64],
+        _: &[u8],
+        _: &mut [u64],
+    ) -> Option<Answer> {
         None
     }
 

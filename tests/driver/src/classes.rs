@@ -10,6 +10,7 @@ use crate::plans::ADD;
 use crate::retains::Retain;
 use crate::sweep;
 use crate::words::{LIMIT, REGION, encode, graph_of, readable};
+use std::mem;
 
 pub const GROWN: &str = "grown";
 pub const GUARDED: &str = "guarded";
@@ -44,13 +45,15 @@ pub struct Rounds {
     pub source: Source,
     // For the calls with any numbers.
     pub numbers: Source,
+    // For the calls with marks.
+    pub marks: Source,
     pub comparison: Comparison,
     // How often a word of each kind was changed, and how often the region was no graph then.
     pub damages: Vec<[u64; 2]>,
 }
 
 impl Rounds {
-    fn pick(&mut self, scalars: &[Scalar], spread: Spread) -> Call {
+    pub fn pick(&mut self, scalars: &[Scalar], spread: Spread) -> Call {
         loop {
             let call = self.source.call(scalars, spread);
             if self.comparison.side.takes(&call) {
@@ -70,7 +73,7 @@ impl Rounds {
     }
 
     // Begins a list on the region of zeros.
-    fn begin_empty(&mut self, class: &'static str) -> List {
+    pub fn begin_empty(&mut self, class: &'static str) -> List {
         self.source.start();
         self.begin(class, Graph::default())
     }
@@ -323,7 +326,7 @@ impl Rounds {
         Ok(())
     }
 
-    fn good_region(&mut self) -> Vec<u64> {
+    pub fn good_region(&mut self) -> Vec<u64> {
         if self.source.random.once_in(3) {
             self.source.other_region()
         } else {
@@ -407,7 +410,17 @@ impl Rounds {
         }
         if self.source.has_numbers {
             self.numbers()?;
+            self.marks()?;
         }
         self.other_length()
+    }
+
+    // The round's calls with marks. They have a source of their own, so that the other classes' calls do not depend on
+    // them.
+    pub fn marks(&mut self) -> Outcome {
+        mem::swap(&mut self.source, &mut self.marks);
+        let compared = self.marked_list().and_then(|()| self.mark_regions());
+        mem::swap(&mut self.source, &mut self.marks);
+        compared
     }
 }

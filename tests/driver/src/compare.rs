@@ -1,6 +1,7 @@
 // Puts a call to both sides, compares the answers and every word, and counts. A difference is made small and told.
 use crate::call::{Answer, Call, Side};
 use crate::classes;
+use crate::marks::no_marks;
 use crate::meter;
 use crate::native::Graph;
 use crate::original::{Original, apply, write};
@@ -27,6 +28,13 @@ struct Difference {
     is_twin: bool,
 }
 
+// The regions that a call is handed, and what the marks' must be after it.
+pub struct Both<'a> {
+    pub region: &'a mut [u64],
+    pub marks: &'a mut [u64],
+    pub right_marks: &'a [u64],
+}
+
 pub struct Comparison {
     pub side: Box<dyn Side>,
     // The side's tier for regions that are known to be graphs, and whether the list at hand is put to it.
@@ -40,9 +48,11 @@ pub struct Comparison {
     pub class: &'static str,
     // The words as the original has them: before a call those of the region, after it those that must be there.
     pub right: Vec<u64>,
+    // A region without marks for the retains of other lists: as it is lent, and as it must stay.
+    pub unmarked: [Vec<u64>; 2],
 }
 
-pub const REFUSALS: [&str; 9] = [
+pub const REFUSALS: [&str; 11] = [
     "refused 0",
     "refused 1",
     "refused 2",
@@ -52,6 +62,8 @@ pub const REFUSALS: [&str; 9] = [
     "refused 6",
     "refused 7",
     "refused 8",
+    "refused 9",
+    "refused 10",
 ];
 
 // What a guard that is assumed has done. A node that gets an alias is narrowed by a new Refine or by one that stood
@@ -83,6 +95,7 @@ fn name_of(count: u64, call: &Call, answer: Answer) -> &'static str {
         (_, Answer::Id(_)) => "old node",
         (_, Answer::Value(_)) => "value",
         (_, Answer::Kept(_)) => "kept",
+        (_, Answer::Mark(_)) => "mark",
         (_, Answer::None) => "none",
         (_, Answer::Refused(number)) => REFUSALS[number as usize],
         (_, Answer::Done) => narrowed(),
@@ -125,19 +138,25 @@ pub fn described(region: &[u64]) -> String {
     text
 }
 
+// A line for each word in which those compared differ from the original's.
+pub fn differing(right: &[u64], found: &[u64]) -> String {
+    let mut text = String::new();
+    for (at, (right, found)) in right.iter().zip(found).enumerate() {
+        if right != found {
+            let [right, found] = [right, found].map(|word| shown(&[*word]));
+            let _ = writeln!(text, "word {at}: original {right}, compared {found}");
+        }
+    }
+    text
+}
+
 impl Difference {
     fn described(&self) -> String {
         let mut text = format!("call: {:?}\non:\n{}", self.call, described(&self.region));
         let tier = if self.is_twin { " in graph" } else { "" };
         let _ = writeln!(text, "original: {:?}", self.right.0);
         let _ = writeln!(text, "compared{tier}: {:?}", self.found.0);
-        for (at, (right, found)) in self.right.1.iter().zip(&self.found.1).enumerate() {
-            if right != found {
-                let [right, found] = [right, found].map(|word| shown(&[*word]));
-                let _ = writeln!(text, "word {at}: original {right}, compared {found}");
-            }
-        }
-        text
+        text + &differing(&self.right.1, &self.found.1)
     }
 }
 
@@ -152,6 +171,7 @@ impl Comparison {
             retains: BTreeMap::new(),
             class: "",
             right: vec![],
+            unmarked: [no_marks(), no_marks()],
         }
     }
 
@@ -161,6 +181,10 @@ impl Comparison {
         self.class = class;
         self.counts.entry(class).or_default().regions += 1;
         self.place(region);
+        self.side.start(region);
+        if let Some(twin) = &mut self.twin {
+            twin.start(region);
+        }
     }
 
     // The region's words are these now.
@@ -205,6 +229,14 @@ impl Comparison {
         match &mut self.twin {
             Some(twin) if self.is_twin && right != Answer::Refused(1) => twin.call(region, call),
             _ => self.side.call(region, call),
+        }
+    }
+
+    // The tier for a call on both regions, by what it must answer. What fails question 1 is not put to the twin.
+    pub fn tier(&mut self, right: Answer) -> &mut dyn Side {
+        match &mut self.twin {
+            Some(twin) if self.is_twin && right != Answer::Refused(1) => twin.as_mut(),
+            _ => self.side.as_mut(),
         }
     }
 

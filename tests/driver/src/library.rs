@@ -1,6 +1,6 @@
 // The proved library's side, through the functions that it exports.
-use crate::call::{Answer, Call, Ready, Side};
-use crate::words::{MARK, WORDS, halves, joined};
+use crate::call::{Answer, Call, Marking, Ready, Side};
+use crate::words::{UNTOUCHED, WORDS, halves, joined};
 
 // The functions that have a twin for a caller that knows the region to be a graph.
 #[derive(Clone, Copy)]
@@ -15,6 +15,8 @@ struct Tier {
     unsigned_range: unsafe extern "C" fn(*mut u64, usize, u64, u64, u64, u64, u64) -> u64,
     assume_guard: unsafe extern "C" fn(*mut u64, usize, u64, u64) -> u64,
     retain: Retain,
+    mark: unsafe extern "C" fn(*const u64, usize, *mut u64, usize) -> u64,
+    return_to: unsafe extern "C" fn(*mut u64, usize, *mut u64, usize, u64) -> u64,
     literal: Reader,
     resolve: unsafe extern "C" fn(*const u64, usize, u64) -> u64,
     node: Reader,
@@ -24,7 +26,16 @@ struct Tier {
 // A call about one node that writes lent words.
 type Reader = unsafe extern "C" fn(*const u64, usize, u64, *mut u64, usize) -> u64;
 
-type Retain = unsafe extern "C" fn(*mut u64, usize, *const u8, usize, *mut u64, usize) -> u64;
+type Retain = unsafe extern "C" fn(
+    *mut u64,
+    usize,
+    *mut u64,
+    usize,
+    *const u8,
+    usize,
+    *mut u64,
+    usize,
+) -> u64;
 
 macro_rules! twins {
     ($($name:ident / $twin:ident ($($word:ident),*);)*) => {
@@ -58,6 +69,8 @@ macro_rules! retains {
                 fn $name(
                     g: *mut u64,
                     len: usize,
+                    m: *mut u64,
+                    m_len: usize,
                     keep: *const u8,
                     keep_len: usize,
                     mapping: *mut u64,
@@ -96,6 +109,17 @@ readers! {
 }
 
 unsafe extern "C" {
+    fn scalars_mark(g: *const u64, len: usize, m: *mut u64, m_len: usize) -> u64;
+    fn scalars_mark_in_graph(g: *const u64, len: usize, m: *mut u64, m_len: usize) -> u64;
+    fn scalars_return_to(g: *mut u64, len: usize, m: *mut u64, m_len: usize, mark: u64) -> u64;
+    fn scalars_return_to_in_graph(
+        g: *mut u64,
+        len: usize,
+        m: *mut u64,
+        m_len: usize,
+        mark: u64,
+    ) -> u64;
+    fn scalars_is_marked(g: *const u64, len: usize, m: *const u64, m_len: usize) -> u64;
     fn scalars_resolve(g: *const u64, len: usize, id: u64) -> u64;
     fn scalars_resolve_in_graph(g: *const u64, len: usize, id: u64) -> u64;
     fn scalars_is_graph(g: *const u64, len: usize) -> u64;
@@ -141,6 +165,8 @@ const ASKING: Tier = Tier {
     unsigned_range: scalars_unsigned_range,
     assume_guard: scalars_assume_guard,
     retain: scalars_retain,
+    mark: scalars_mark,
+    return_to: scalars_return_to,
     literal: scalars_literal,
     resolve: scalars_resolve,
     node: scalars_node,
@@ -158,13 +184,15 @@ const IN_GRAPH: Tier = Tier {
     unsigned_range: scalars_unsigned_range_in_graph,
     assume_guard: scalars_assume_guard_in_graph,
     retain: scalars_retain_in_graph,
+    mark: scalars_mark_in_graph,
+    return_to: scalars_return_to_in_graph,
     literal: scalars_literal_in_graph,
     resolve: scalars_resolve_in_graph,
     node: scalars_node_in_graph,
     guard: scalars_guard_in_graph,
 };
 
-// What a guard that is assumed answers.
+// What a guard that is assumed and a return to a mark answer.
 const DONE: u64 = 1 << 63;
 // The answer where lent words have another number than what is to be written.
 const WRONG_LENGTH: u64 = (1 << 63) + 1;
@@ -182,7 +210,7 @@ fn answer_of(number: u64) -> Answer {
     }
     match u64::MAX - number {
         0 => Answer::None,
-        refusal @ 1..=8 => Answer::Refused(refusal),
+        refusal @ 1..=10 => Answer::Refused(refusal),
         _ => Answer::Id(number),
     }
 }
@@ -194,11 +222,11 @@ fn lent<const WRITTEN: usize>(
     room: usize,
     call: impl FnOnce(*mut u64, usize) -> u64,
 ) -> Result<[u64; WRITTEN], Answer> {
-    let mut out = vec![MARK; room.min(MOST) + PAST];
+    let mut out = vec![UNTOUCHED; room.min(MOST) + PAST];
     let number = call(out.as_mut_ptr(), room);
     let is_written = number == 1 && room == WRITTEN;
     let written = if is_written { WRITTEN } else { 0 };
-    if out[written..].iter().any(|word| *word != MARK) {
+    if out[written..].iter().any(|word| *word != UNTOUCHED) {
         return Err(Answer::Spoilt);
     }
     match out.first_chunk() {
@@ -320,11 +348,19 @@ impl Tier {
         }
     }
 
-    // SAFETY: the caller of the twins makes the region a graph. The slices are passed whole.
-    unsafe fn retained(&self, region: &mut [u64], keep: &[u8], mapping: &mut [u64]) -> Answer {
+    // SAFETY: the caller of the twins makes the regions a graph with its marks. The slices are passed whole.
+    unsafe fn retained(
+        &self,
+        region: &mut [u64],
+        marks: &mut [u64],
+        keep: &[u8],
+        mapping: &mut [u64],
+    ) -> Answer {
         let (g, len) = (region.as_mut_ptr(), region.len());
-        let (m, m_len) = (mapping.as_mut_ptr(), mapping.len());
-        let number = unsafe { (self.retain)(g, len, keep.as_ptr(), keep.len(), m, m_len) };
+        let (m, m_len) = (marks.as_mut_ptr(), marks.len());
+        let (list, list_len) = (keep.as_ptr(), keep.len());
+        let (ids, ids_len) = (mapping.as_mut_ptr(), mapping.len());
+        let number = unsafe { (self.retain)(g, len, m, m_len, list, list_len, ids, ids_len) };
         match answer_of(number) {
             Answer::Id(nodes) => Answer::Kept(nodes),
             other => other,
@@ -332,6 +368,22 @@ impl Tier {
     }
 
     // SAFETY: as for retain.
+    unsafe fn marking(&self, region: &mut [u64], marks: &mut [u64], call: Marking) -> Answer {
+        let (g, len) = (region.as_mut_ptr(), region.len());
+        let (m, m_len) = (marks.as_mut_ptr(), marks.len());
+        let number = match call {
+            Marking::IsMarked => unsafe { scalars_is_marked(g, len, m, m_len) },
+            Marking::Mark => unsafe { (self.mark)(g, len, m, m_len) },
+            Marking::ReturnTo(mark) => unsafe { (self.return_to)(g, len, m, m_len, mark) },
+        };
+        match (call, answer_of(number)) {
+            (Marking::IsMarked, Answer::Id(is @ 0..2)) => Answer::Is(is == 1),
+            (Marking::Mark, Answer::Id(mark)) => Answer::Mark(mark),
+            (_, answer) => answer,
+        }
+    }
+
+    // SAFETY: as for retain, of the graph's region alone.
     unsafe fn read(&self, region: &[u64], call: &Call) -> Option<Answer> {
         let (g, len) = (region.as_ptr(), region.len());
         Some(match *call {
@@ -356,7 +408,7 @@ impl Tier {
         })
     }
 
-    // SAFETY: as for retain.
+    // SAFETY: as for the calls that read.
     unsafe fn call(&self, region: &mut [u64], call: &Call) -> Answer {
         if let Some(ready) = self.ready(call) {
             return answer_of(unsafe { ready.make(region) });
@@ -385,9 +437,20 @@ impl Side for Library {
         unsafe { ASKING.call(region, call) }
     }
 
-    fn retain(&mut self, region: &mut [u64], keep: &[u8], mapping: &mut [u64]) -> Option<Answer> {
+    fn marking(&mut self, region: &mut [u64], marks: &mut [u64], call: Marking) -> Option<Answer> {
         // SAFETY: these functions ask nothing of their caller.
-        Some(unsafe { ASKING.retained(region, keep, mapping) })
+        Some(unsafe { ASKING.marking(region, marks, call) })
+    }
+
+    fn retain(
+        &mut self,
+        region: &mut [u64],
+        marks: &mut [u64],
+        keep: &[u8],
+        mapping: &mut [u64],
+    ) -> Option<Answer> {
+        // SAFETY: these functions ask nothing of their caller.
+        Some(unsafe { ASKING.retained(region, marks, keep, mapping) })
     }
 
     fn ready(&self, call: &Call) -> Option<Ready> {
@@ -408,9 +471,20 @@ impl Side for InGraph {
         unsafe { IN_GRAPH.call(region, call) }
     }
 
-    fn retain(&mut self, region: &mut [u64], keep: &[u8], mapping: &mut [u64]) -> Option<Answer> {
-        // SAFETY: the caller made the region a graph.
-        Some(unsafe { IN_GRAPH.retained(region, keep, mapping) })
+    fn marking(&mut self, region: &mut [u64], marks: &mut [u64], call: Marking) -> Option<Answer> {
+        // SAFETY: the caller made the regions a graph with its marks.
+        Some(unsafe { IN_GRAPH.marking(region, marks, call) })
+    }
+
+    fn retain(
+        &mut self,
+        region: &mut [u64],
+        marks: &mut [u64],
+        keep: &[u8],
+        mapping: &mut [u64],
+    ) -> Option<Answer> {
+        // SAFETY: the caller made the regions a graph with its marks.
+        Some(unsafe { IN_GRAPH.retained(region, marks, keep, mapping) })
     }
 
     fn ready(&self, call: &Call) -> Option<Ready> {

@@ -293,7 +293,9 @@ pub fn answer_line(answer: Answer, words: &[u64]) -> String {
         Answer::Kept(nodes) => format!("kept {nodes}"),
         Answer::Done => "done".to_string(),
         Answer::Guard(words) => format!("guard {:032x}", packed(words)),
-        Answer::Node(_) | Answer::WrongLength => unreachable!("such a call has no line"),
+        Answer::Node(_) | Answer::Mark(_) | Answer::WrongLength => {
+            unreachable!("such a call has no line")
+        }
     };
     format!("{text} {:032x}\n", sums(words))
 }

@@ -17,6 +17,9 @@ mod guards;
 #[cfg(library)]
 mod library;
 mod lines;
+mod mark_regions;
+mod marked;
+mod marks;
 mod meter;
 // The original with its entries, stores and sites told to `meter`.
 #[allow(dead_code)]
@@ -51,7 +54,7 @@ use call::Side;
 use classes::Rounds;
 use compare::Comparison;
 use generate::Source;
-use original::Original;
+use marks::Filled;
 use program::Program;
 use regions::WORD_KINDS;
 use std::env;
@@ -100,6 +103,7 @@ fn compare(
     let mut all = Rounds {
         source: Source::new(seed, has_numbers),
         numbers: Source::new(!seed, has_numbers),
+        marks: Source::new(seed.rotate_left(32), has_numbers),
         comparison: Comparison::new(side, twin),
         damages: vec![[0; 2]; WORD_KINDS.len()],
     };
@@ -157,7 +161,7 @@ fn main() -> ExitCode {
         }
         ["one", name, nodes, node, side] => one(name, nodes, node, side),
         // The original on a graph filled from the region, against the graph that it has grown.
-        ["self", rest @ ..] => run(Box::new(Original), None, true, rest),
+        ["self", rest @ ..] => run(Box::new(Filled), None, true, rest),
         ["--program", path, rest @ ..] => run(Box::new(Program::new(path)), None, false, rest),
         rest => {
             let code = run(library(), Some(twin()), true, rest);

@@ -292,6 +292,16 @@ pub fn retain(graph: &mut Graph, keep: &[u8], mapping: &mut [u64]) -> Answer {
     Answer::Kept(graph.scalars.len() as u64)
 }
 
+// A retain on a region, from which the maps are filled.
+pub fn retain_region(region: &mut [u64], keep: &[u8], mapping: &mut [u64]) -> Answer {
+    let Some(mut graph) = graph_of(region) else {
+        return Answer::Refused(1);
+    };
+    let answer = retain(&mut graph, keep, mapping);
+    encode(&graph, region);
+    answer
+}
+
 impl Side for Original {
     // The maps are filled from the region before the call.
     fn call(&mut self, region: &mut [u64], call: &Call) -> Answer {
@@ -309,15 +319,6 @@ impl Side for Original {
         let answer = apply(&mut graph, call);
         write(&graph, count, call, region);
         answer
-    }
-
-    fn retain(&mut self, region: &mut [u64], keep: &[u8], mapping: &mut [u64]) -> Option<Answer> {
-        let Some(mut graph) = graph_of(region) else {
-            return Some(Answer::Refused(1));
-        };
-        let answer = retain(&mut graph, keep, mapping);
-        encode(&graph, region);
-        Some(answer)
     }
 
     fn takes(&self, _: &Call) -> bool {

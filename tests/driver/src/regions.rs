@@ -388,7 +388,7 @@ impl Source {
     }
 
     // Another number for a word.
-    fn other(&mut self, word: u64) -> u64 {
+    pub fn other(&mut self, word: u64) -> u64 {
         let other = match self.random.below(9) {
             0 => word.wrapping_add(1),
             1 => word.wrapping_sub(1),

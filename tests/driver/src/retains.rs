@@ -1,10 +1,11 @@
 // Retains: which nodes to keep, and the comparison of answer, region and mapping.
 use crate::call::Answer;
-use crate::compare::{Comparison, REFUSALS, described, shown};
+use crate::compare::{Both, Comparison, REFUSALS, described, differing, shown};
 use crate::generate::Source;
 use crate::native::{Graph, Scalar};
-use crate::original;
-use crate::words::{MARK, encode, graph_of, operands};
+use crate::original::{self, retain_region};
+use crate::words::{UNTOUCHED, encode, operands};
+use std::mem;
 
 // The keep list, and the number of words lent for the mapping.
 #[derive(Clone, Debug)]
@@ -175,49 +176,61 @@ impl Comparison {
         *counts.entry(name).or_default() += 1;
     }
 
-    // Puts a retain to the tier of the list, and compares answer, region and mapping with these.
-    fn settle_retain(
+    // Puts a retain to the tier of the list, and compares answer, regions and mapping with these.
+    pub fn settle_retain(
+        &mut self,
+        both: Both,
+        retain: &Retain,
+        right: Answer,
+        right_mapping: &[u64],
+    ) -> Result<Answer, String> {
+        let Both { region, marks, .. } = both;
+        let before = region.to_vec();
+        let mut mapping = vec![UNTOUCHED; retain.mapping];
+        let side = self.tier(right);
+        let Some(found) = side.retain(region, marks, &retain.keep, &mut mapping) else {
+            region.copy_from_slice(&self.right);
+            return Ok(right);
+        };
+        let is_same = found == right && region == self.right && mapping == right_mapping;
+        if is_same && marks == both.right_marks {
+            self.count_retain(retain, right);
+            return Ok(right);
+        }
+        let texts = [&before, &self.right, &region.to_vec()].map(|words| described(words));
+        let mappings = [right_mapping, &mapping].map(shown);
+        let differing = differing(both.right_marks, marks);
+        Err(format!(
+            "retain: {retain:?}\non:\n{}original: {right:?}\n{}mapping: {}\ncompared: {found:?}\n{}mapping: {}\nmarks' region:\n{differing}",
+            texts[0], texts[1], mappings[0], texts[2], mappings[1]
+        ))
+    }
+
+    // As `settle_retain`, where no mark stands.
+    fn settle_unmarked(
         &mut self,
         region: &mut [u64],
         retain: &Retain,
         right: Answer,
         right_mapping: &[u64],
     ) -> Result<Answer, String> {
-        let before = region.to_vec();
-        let mut mapping = vec![MARK; retain.mapping];
-        let side = match &mut self.twin {
-            Some(twin) if self.is_twin && right != Answer::Refused(1) => twin,
-            _ => &mut self.side,
+        let [mut marks, right_marks] = mem::take(&mut self.unmarked);
+        let both = Both {
+            region,
+            marks: &mut marks,
+            right_marks: &right_marks,
         };
-        let Some(found) = side.retain(region, &retain.keep, &mut mapping) else {
-            region.copy_from_slice(&self.right);
-            return Ok(right);
-        };
-        if found == right && region == self.right && mapping == right_mapping {
-            self.count_retain(retain, right);
-            return Ok(right);
-        }
-        let texts = [&before, &self.right, &region.to_vec()].map(|words| described(words));
-        let mappings = [right_mapping, &mapping].map(shown);
-        Err(format!(
-            "retain: {retain:?}\non:\n{}original: {right:?}\n{}mapping: {}\ncompared: {found:?}\n{}mapping: {}\n",
-            texts[0], texts[1], mappings[0], texts[2], mappings[1]
-        ))
+        let settled = self.settle_retain(both, retain, right, right_mapping);
+        self.unmarked = [marks, right_marks];
+        settled
     }
 
     // A retain on any region.
     pub fn retain(&mut self, region: &mut [u64], retain: &Retain) -> Result<Answer, String> {
-        let mut mapping = vec![MARK; retain.mapping];
+        let mut mapping = vec![UNTOUCHED; retain.mapping];
         self.place(region);
-        let right = match graph_of(region) {
-            Some(mut graph) => {
-                let right = original::retain(&mut graph, &retain.keep, &mut mapping);
-                encode(&graph, &mut self.right);
-                right
-            }
-            None => Answer::Refused(1),
-        };
-        self.settle_retain(region, retain, right, &mapping)
+        let right = retain_region(&mut self.right, &retain.keep, &mut mapping);
+        self.settle_unmarked(region, retain, right, &mapping)
     }
 
     // A retain on a region that calls have grown, and on the graph that the original has grown beside it.
@@ -227,9 +240,9 @@ impl Comparison {
         graph: &mut Graph,
         retain: &Retain,
     ) -> Result<Answer, String> {
-        let mut mapping = vec![MARK; retain.mapping];
+        let mut mapping = vec![UNTOUCHED; retain.mapping];
         let right = original::retain(graph, &retain.keep, &mut mapping);
         encode(graph, &mut self.right);
-        self.settle_retain(region, retain, right, &mapping)
+        self.settle_unmarked(region, retain, right, &mapping)
     }
 }

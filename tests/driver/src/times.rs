@@ -2,6 +2,7 @@
 // retain and a guard. The original is timed as it is, not the metered one. `one` makes the calls of one builder alone,
 // for a count of their instructions.
 use crate::call::{Call, Ready, Side};
+use crate::marks::MARKS;
 use crate::native;
 use crate::original::apply;
 use crate::plain::{Binary, Graph, Range, ScalarType, Unary};
@@ -528,10 +529,10 @@ fn retain_times(tiers: &mut Tiers, nodes: usize) -> [f64; 3] {
     let [twin, asking] = [&mut tiers.twin, &mut tiers.asking].map(|side| {
         smallest(|| {
             let mut regions = vec![region.clone(); COPIES];
-            let mut mapping = vec![0; count];
+            let (mut marks, mut mapping) = (vec![0; MARKS], vec![0; count]);
             timed(COPIES, || {
                 for region in &mut regions {
-                    black_box(side.retain(region, black_box(&keep), &mut mapping));
+                    black_box(side.retain(region, &mut marks, black_box(&keep), &mut mapping));
                 }
             })
         })

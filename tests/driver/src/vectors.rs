@@ -9,10 +9,10 @@ use crate::lines::{
 };
 use crate::meter::{self, Kind};
 use crate::native::ScalarType;
-use crate::original::Original;
+use crate::original::{Original, retain_region};
 use crate::retains::Retain;
 use crate::sites::{Reach, sites};
-use crate::words::{LIMIT, MARK, REGION, readable};
+use crate::words::{LIMIT, UNTOUCHED, REGION, readable};
 use std::fs;
 
 const SEED: u64 = 0x5ca1_ab1e_0004_0002;
@@ -74,9 +74,7 @@ impl Vectors {
         self.input += &line;
         let (region, past) = self.held.split_at_mut(MAPPING);
         let mapping = &mut past[..retain.mapping];
-        let answer = Original
-            .retain(&mut region[..len], &retain.keep, mapping)
-            .expect("the original retains");
+        let answer = retain_region(&mut region[..len], &retain.keep, mapping);
         self.output += &answer_line(answer, &self.held);
         self.retains += 1;
         true
@@ -86,7 +84,7 @@ impl Vectors {
     fn retain_or_place(&mut self, retain: &Retain) {
         if !self.retain(REGION, retain) {
             let mut region = self.held[..REGION].to_vec();
-            Original.retain(&mut region, &retain.keep, &mut vec![0; retain.mapping]);
+            retain_region(&mut region, &retain.keep, &mut vec![0; retain.mapping]);
             self.place(&region);
         }
     }
@@ -94,7 +92,7 @@ impl Vectors {
     // Retains that are refused, with a mapping that is not zeros, one that is not, and calls on what it leaves.
     fn retains(&mut self) {
         let scalars = readable(&self.held[..REGION]);
-        self.held[MAPPING..][..4].fill(MARK);
+        self.held[MAPPING..][..4].fill(UNTOUCHED);
         self.input += &poke_line(MAPPING, &self.held);
         self.output += DONE;
         for retain in self.source.retains(&scalars) {

@@ -4,7 +4,7 @@ use crate::native::{Binary, Graph, Operation, Range, Scalar, ScalarType, Unary};
 use crate::operators::{self, BINARY_CODE, UNARY_CODE};
 
 // Stands in lent words before a call, where it must leave them alone.
-pub const MARK: u64 = 0x5ca1_ab1e_5ca1_ab1e;
+pub const UNTOUCHED: u64 = 0x5ca1_ab1e_5ca1_ab1e;
 pub const REGION: usize = 6145;
 pub const WORDS: usize = 12;
 pub const LIMIT: usize = 512;
@@ -72,7 +72,7 @@ pub fn binary_code(operation: Binary) -> u64 {
     BINARY + place.expect("every operator is listed") as u64
 }
 
-fn alias_word(alias: Option<usize>) -> u64 {
+pub fn alias_word(alias: Option<usize>) -> u64 {
     alias.map_or(0, |id| id as u64 + 1)
 }
 
