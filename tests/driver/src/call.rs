@@ -199,13 +199,7 @@ pub trait Side {
     }
 
     // A retain on both regions, with the keep list and the lent mapping, where the side has it.
-    fn retain(
-        &mut self,
-        _: &mut [u64],
-        _: &mut [u64],
-        _: &[u8],
-        _: &mut [u64],
-    ) -> Option<Answer> {
+    fn retain(&mut self, _: &mut [u64], _: &mut [u64], _: &[u8], _: &mut [u64]) -> Option<Answer> {
         None
     }
 

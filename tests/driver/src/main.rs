@@ -1,5 +1,5 @@
 // Compares the proved library with the original on random calls: the answers, and every word after every call.
-// usage: driver [--program PATH | self] [SEED [ROUNDS]]   or   driver times   or   driver one NAME NODES old|new original|library   or   driver vectors FOLDER
+// usage: driver [--program PATH | self | marks] [SEED [ROUNDS]]   or   driver times   or   driver one NAME NODES old|new original|library   or   driver vectors FOLDER
 #[cfg(library)]
 mod binding;
 mod builders;
@@ -92,6 +92,36 @@ fn number(text: &str) -> u64 {
     parsed.unwrap_or_else(|_| panic!("{text} is no number"))
 }
 
+// Rounds of the calls with marks alone.
+fn compare_marks(seed: u64, rounds: u64) -> ExitCode {
+    println!("seed {seed:#x}, {rounds} rounds with marks alone\n");
+    let mut all = all_rounds(library(), Some(twin()), true, seed);
+    let compared = (0..rounds).try_for_each(|_| all.marks());
+    if let Err(difference) = compared {
+        println!("DIFFERENCE\n{}", difference);
+        return ExitCode::FAILURE;
+    }
+    report::print(&all);
+    #[cfg(library)]
+    println!("calls through the Rust binding: {}", binding::made());
+    ExitCode::SUCCESS
+}
+
+fn all_rounds(
+    side: Box<dyn Side>,
+    twin: Option<Box<dyn Side>>,
+    has_numbers: bool,
+    seed: u64,
+) -> Rounds {
+    Rounds {
+        source: Source::new(seed, has_numbers),
+        numbers: Source::new(!seed, has_numbers),
+        marks: Source::new(seed.rotate_left(32), has_numbers),
+        comparison: Comparison::new(side, twin),
+        damages: vec![[0; 2]; WORD_KINDS.len()],
+    }
+}
+
 fn compare(
     side: Box<dyn Side>,
     twin: Option<Box<dyn Side>>,
@@ -100,13 +130,7 @@ fn compare(
     rounds: u64,
 ) -> ExitCode {
     println!("seed {seed:#x}, {rounds} rounds\n");
-    let mut all = Rounds {
-        source: Source::new(seed, has_numbers),
-        numbers: Source::new(!seed, has_numbers),
-        marks: Source::new(seed.rotate_left(32), has_numbers),
-        comparison: Comparison::new(side, twin),
-        damages: vec![[0; 2]; WORD_KINDS.len()],
-    };
+    let mut all = all_rounds(side, twin, has_numbers, seed);
     let mut compared = all.fixed();
     for round in 0..rounds {
         compared = compared.and_then(|()| all.round(round));
@@ -145,9 +169,13 @@ fn one(name: &str, nodes: &str, node: &str, side: &str) -> ExitCode {
 fn main() -> ExitCode {
     let args: Vec<String> = env::args().skip(1).collect();
     let args: Vec<&str> = args.iter().map(String::as_str).collect();
-    let run = |side: Box<dyn Side>, twin: Option<Box<dyn Side>>, has_numbers, args: &[&str]| {
+    let numbers = |args: &[&str]| {
         let seed = args.first().map_or(SEED, |text| number(text));
         let rounds = args.get(1).map_or(ROUNDS, |text| number(text));
+        (seed, rounds)
+    };
+    let run = |side: Box<dyn Side>, twin: Option<Box<dyn Side>>, has_numbers, args: &[&str]| {
+        let (seed, rounds) = numbers(args);
         compare(side, twin, has_numbers, seed, rounds)
     };
     match args.as_slice() {
@@ -160,6 +188,10 @@ fn main() -> ExitCode {
             ExitCode::SUCCESS
         }
         ["one", name, nodes, node, side] => one(name, nodes, node, side),
+        ["marks", rest @ ..] => {
+            let (seed, rounds) = numbers(rest);
+            compare_marks(seed, rounds)
+        }
         // The original on a graph filled from the region, against the graph that it has grown.
         ["self", rest @ ..] => run(Box::new(Filled), None, true, rest),
         ["--program", path, rest @ ..] => run(Box::new(Program::new(path)), None, false, rest),

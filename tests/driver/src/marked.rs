@@ -5,7 +5,7 @@ use crate::call::{Answer, Call, Marking};
 use crate::classes::{List, Outcome, Rounds};
 use crate::compare::{Both, Comparison, REFUSALS, described, differing};
 use crate::generate::{Source, Spread};
-use crate::marks::{MOST, no_marks, write_mark_of};
+use crate::marks::{MOST, described_marks, no_marks, write_mark_of};
 use crate::native::{Graph, ScalarType, opened};
 use crate::original;
 use crate::retains::Retain;
@@ -114,7 +114,7 @@ impl Comparison {
         name: &'static str,
     ) -> Outcome {
         let Both { region, marks, .. } = both;
-        let before = region.to_vec();
+        let before = (region.to_vec(), marks.to_vec());
         let side = self.tier(right);
         let Some(found) = side.marking(region, marks, call) else {
             return Err("the side has no marks".to_string());
@@ -125,8 +125,9 @@ impl Comparison {
         }
         let tier = if self.is_twin { " in graph" } else { "" };
         Err(format!(
-            "call: {call:?}\non:\n{}original: {right:?}\ncompared{tier}: {found:?}\n{}marks' region:\n{}",
-            described(&before),
+            "call: {call:?}\non:\n{}and:\n{}original: {right:?}\ncompared{tier}: {found:?}\n{}marks' region:\n{}",
+            described(&before.0),
+            described_marks(&before.1),
             differing(&self.right, region),
             differing(both.right_marks, marks)
         ))
@@ -181,7 +182,9 @@ impl Source {
         match self.random.below(10) {
             0..6 if standing > 0 => self.random.below(standing) as u64,
             6 | 7 => (standing + self.random.below(3)).saturating_sub(1) as u64,
-            8 => self.random.pick(&[15, 16, 17, 512, 1 << 32, 1 << 63, u64::MAX]),
+            8 => self
+                .random
+                .pick(&[15, 16, 17, 512, 1 << 32, 1 << 63, u64::MAX]),
             _ => self.random.below(21) as u64,
         }
     }
@@ -343,10 +346,28 @@ impl Rounds {
         Ok(())
     }
 
-    // Adds leaves until there is room for a few nodes alone.
+    // What leads to guards, which are kept in mind and not yet assumed.
+    fn prepare_guards(&mut self, list: &mut MarkedList) -> Outcome {
+        self.source.begin_guards(&list.list.graph.scalars);
+        while let Some(call) = self.source.plan.next() {
+            self.source.remember(&call);
+            let answer = match call {
+                Call::AssumeGuard { .. } => Answer::Done,
+                _ => self.call_in(list, &call)?,
+            };
+            self.source.hear(answer);
+        }
+        Ok(())
+    }
+
+    // Prepares guards, and adds leaves until there is room for a few nodes alone: a guard is refused 7, perhaps after an
+    // alias was set.
     fn fill_up(&mut self, list: &mut MarkedList) -> Outcome {
+        for _ in 0..4 {
+            self.prepare_guards(list)?;
+        }
         let ty = ScalarType::Integer.into();
-        let room = self.source.random.below(8);
+        let room = self.source.random.below(6);
         for number in 0.. {
             if list.nodes() >= LIMIT - room {
                 break;
@@ -354,6 +375,8 @@ impl Rounds {
             let number = 1000 + number;
             self.call_in(list, &Call::Effect { number, ty })?;
         }
-        Ok(())
+        self.mark_in(list)?;
+        self.guards_in(list, 12)?;
+        self.return_in(list, 0)
     }
 }

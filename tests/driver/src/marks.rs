@@ -1,9 +1,11 @@
 // The marks' region, written from docs/CALLS.md: its words, question 1 of both regions, and what each call about marks
 // answers and leaves by the words alone.
 use crate::call::{Answer, Call, Marking, Side};
+use crate::compare::shown;
 use crate::native::{Graph, opened};
 use crate::original::{Original, retain_region};
 use crate::words::{ALIAS, LIMIT, UNTOUCHED, alias_word, nodes_of, start_of};
+use std::fmt::Write as _;
 
 // The words of the region, the most marks, and the words of a mark: its number of nodes, and an alias word for each
 // node that there can be.
@@ -21,6 +23,22 @@ pub fn no_marks() -> Vec<u64> {
     let mut marks = vec![UNTOUCHED; MARKS];
     marks[0] = 0;
     marks
+}
+
+// A line for the number of marks that stand, and one for each: its number of nodes, and their alias words.
+pub fn described_marks(marks: &[u64]) -> String {
+    let standing = marks.first().copied().unwrap_or(0);
+    let mut text = format!("  {} words, {} marks\n", marks.len(), shown(&[standing]));
+    let words = marks.get(1..).unwrap_or(&[]).chunks(SPAN);
+    for (mark, words) in words.enumerate().take(standing.min(MOST as u64) as usize) {
+        let aliases = &words[1..][..(words[0] as usize).min(words.len() - 1)];
+        let _ = writeln!(
+            text,
+            "  mark {mark}: {}",
+            shown(&words[..1 + aliases.len()])
+        );
+    }
+    text
 }
 
 // Is it a mark's number of nodes, at most so many, and alias words of so many nodes?

@@ -5,6 +5,8 @@ use crate::classes::{
     DAMAGED, EDGES, FULL, GROWN, GUARDED, LENGTH, OTHER, PASSING, Rounds, SWEPT, kind_of,
 };
 use crate::compare::{Comparison, Counts, NARROWED, TAKEN_BACK};
+use crate::mark_regions::{MARK_LENGTHS, MARK_WORDS};
+use crate::marked::{MARKED, MARKINGS, RETURNED};
 use crate::meter::{Kind, hits};
 use crate::numbers::{ANY_EMPTY, ANY_GROWN, ANY_NO_GRAPH, ANY_OTHER, VALUES};
 use crate::regions::WORD_KINDS;
@@ -12,7 +14,7 @@ use crate::retains;
 use crate::sites::{Reach, sites};
 use std::collections::BTreeMap;
 
-const CLASSES: [(&str, &str); 15] = [
+const CLASSES: [(&str, &str); 18] = [
     (EDGES, "the edges of document 01"),
     (SWEPT, "one node's words through all their limits"),
     (GROWN, "grown from zeros"),
@@ -28,6 +30,9 @@ const CLASSES: [(&str, &str); 15] = [
     NUMBERED[3],
     NUMBERED[4],
     NUMBERED[5],
+    WITH_MARKS[0],
+    WITH_MARKS[1],
+    WITH_MARKS[2],
 ];
 
 // The classes of calls with any numbers.
@@ -38,6 +43,13 @@ const NUMBERED: [(&str, &str); 6] = [
     (ANY_OTHER, "any numbers: on other graphs"),
     (ANY_NO_GRAPH, "any numbers: on no graph"),
     (VALUES, "evaluators and mask"),
+];
+
+// The classes with marks.
+const WITH_MARKS: [(&str, &str); 3] = [
+    (MARKED, "marks: grown from zeros"),
+    (MARK_WORDS, "marks: any words"),
+    (MARK_LENGTHS, "marks: another length"),
 ];
 
 // The answers that a whole run must have met, by class.
@@ -197,6 +209,49 @@ const MET_NUMBERED: [(&str, &[&str]); 6] = [
     ),
 ];
 
+// The same for the classes with marks, which a program has not either.
+const MET_WITH_MARKS: [(&str, &[&str]); 3] = [
+    (
+        MARKED,
+        &[
+            "is marked",
+            "mark",
+            RETURNED[0],
+            RETURNED[1],
+            RETURNED[2],
+            NARROWED[0],
+            NARROWED[1],
+            NARROWED[2],
+            TAKEN_BACK,
+            "new node",
+            "old node",
+            "none",
+            "resolved",
+            "refused 2",
+            "refused 3",
+            "refused 4",
+            "refused 5",
+            "refused 7",
+            "refused 9",
+            "refused 10",
+        ],
+    ),
+    (
+        MARK_WORDS,
+        &[
+            "is marked",
+            "is not marked",
+            "mark",
+            RETURNED[0],
+            RETURNED[1],
+            "refused 1",
+            "refused 9",
+            "refused 10",
+        ],
+    ),
+    (MARK_LENGTHS, &["is not marked", "refused 1"]),
+];
+
 fn print_classes(counts: &BTreeMap<&'static str, Counts>) {
     println!("| class | regions | calls | answers |");
     println!("|---|---|---|---|");
@@ -310,6 +365,47 @@ fn print_guards(counts: &BTreeMap<&'static str, Counts>, kind: Kind, name: &str)
     );
 }
 
+// The calls and retains of some classes, and how many of the calls had one of these answers.
+fn sum_of(comparison: &Comparison, classes: &[&str], answers: &[&str]) -> [u64; 3] {
+    let counts = || {
+        classes
+            .iter()
+            .filter_map(|class| comparison.counts.get(class))
+    };
+    let retains = classes
+        .iter()
+        .filter_map(|class| comparison.retains.get(class));
+    let answered =
+        counts().flat_map(|counts| answers.iter().filter_map(|name| counts.answers.get(name)));
+    [
+        counts().map(|counts| counts.calls).sum(),
+        retains.flat_map(|kinds| kinds.values()).sum(),
+        answered.sum(),
+    ]
+}
+
+fn print_marks(comparison: &Comparison) {
+    let lists = |answers: &[&str]| sum_of(comparison, &[MARKED], answers)[2];
+    let [calls, retains, marks] = sum_of(comparison, &[MARKED], &["mark"]);
+    println!(
+        "In lists with marks: {calls} calls and {retains} retains; of the calls {marks} marks, {} returns ({} that change nothing, {} that take back an alias to an old node), {} refused 9, {} refused 10",
+        lists(&RETURNED),
+        lists(&RETURNED[..1]),
+        lists(&RETURNED[2..]),
+        lists(&["refused 9"]),
+        lists(&["refused 10"]),
+    );
+    let other = |answers: &[&str]| sum_of(comparison, &[MARK_WORDS, MARK_LENGTHS], answers);
+    let [calls, retains, refused] = other(&["refused 1"]);
+    println!(
+        "On other regions with marks: {calls} calls and {retains} retains; of the calls {refused} refused 1, {} marks, {} returns, {} refused 9, {} refused 10",
+        other(&["mark"])[2],
+        other(&RETURNED)[2],
+        other(&["refused 9"])[2],
+        other(&["refused 10"])[2],
+    );
+}
+
 pub fn print(rounds: &Rounds) {
     let counts = &rounds.comparison.counts;
     print_classes(counts);
@@ -323,6 +419,7 @@ pub fn print(rounds: &Rounds) {
     print_guards(counts, Kind::Grown, "grown graphs");
     print_guards(counts, Kind::Other, "other regions");
     println!("With any numbers: {} of the calls", of_numbered(counts));
+    print_marks(&rounds.comparison);
     println!("{calls} calls and {retains} retains compared, no difference");
 }
 
@@ -346,11 +443,21 @@ fn missing_retains(comparison: &Comparison) -> Vec<String> {
         kinds.is_some_and(|kinds| kinds.contains_key(kind))
     };
     let mut missing = vec![];
-    for class in [GROWN, OTHER] {
+    for class in [GROWN, OTHER, MARKED, MARK_WORDS] {
         let kinds = retains::KINDS.iter().filter(|kind| !is_met(class, kind));
         missing.extend(kinds.map(|kind| format!("{class}: {kind}")));
     }
     missing.retain(|_| !comparison.retains.is_empty());
+    missing
+}
+
+// What the classes with marks must have met and have not.
+fn missing_marks(comparison: &Comparison) -> Vec<String> {
+    let mut missing = vec![];
+    for (class, names) in MET_WITH_MARKS {
+        missing.extend(missing_of(comparison, class, names, &MARKINGS));
+    }
+    missing.extend(missing_of(comparison, MARKED, &[], &KINDS[..LISTED]));
     missing
 }
 
@@ -378,6 +485,9 @@ pub fn missing(rounds: &Rounds) -> Vec<String> {
         if rounds.source.has_numbers {
             missing.extend(missing_of(comparison, class, names, &KINDS[first..]));
         }
+    }
+    if rounds.source.has_numbers {
+        missing.extend(missing_marks(comparison));
     }
     missing.extend(missing_retains(comparison));
     missing.extend(wrong_sites());

@@ -12,7 +12,7 @@ use crate::native::ScalarType;
 use crate::original::{Original, retain_region};
 use crate::retains::Retain;
 use crate::sites::{Reach, sites};
-use crate::words::{LIMIT, UNTOUCHED, REGION, readable};
+use crate::words::{LIMIT, REGION, UNTOUCHED, readable};
 use std::fs;
 
 const SEED: u64 = 0x5ca1_ab1e_0004_0002;
