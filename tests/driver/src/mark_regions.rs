@@ -7,7 +7,7 @@ use crate::generate::{Source, Spread};
 use crate::marked::RETURNED;
 use crate::marks::{MARKS, MOST, are_marks, by_words, mark_start, retain_by_words};
 use crate::retains::Retain;
-use crate::words::{LIMIT, REGION, UNTOUCHED, readable};
+use crate::words::{LIMIT, REGION, UNTOUCHED, nodes_of, readable};
 
 pub const MARK_WORDS: &str = "marks, any words";
 pub const MARK_LENGTHS: &str = "marks, other length";
@@ -168,13 +168,13 @@ impl Rounds {
         self.comparison.is_twin = self.source.random.once_in(2);
         self.source.forget();
         for _ in 0..IN_LIST {
+            if nodes_of(region).is_none() {
+                break;
+            }
             let call = self.pick(&readable(region), Spread::Few);
             self.comparison.place(region);
             let answer = self.comparison.call(region, &call)?;
             self.source.hear(answer);
-            if answer == Answer::Refused(1) {
-                break;
-            }
             for call in self.source.markings(marks[0]).into_iter().take(2) {
                 self.comparison.marking(region, marks, call)?;
             }
