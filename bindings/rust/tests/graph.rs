@@ -201,6 +201,14 @@ fn a_retain_drops_marks_unless_it_is_refused() {
 }
 
 #[test]
+fn a_retain_of_no_node_drops_marks_too() {
+    let mut graph = Graph::default();
+    assert_eq!(graph.mark(), 0);
+    assert_eq!(graph.retain(&[]), []);
+    assert_eq!(refused(&mut graph, |g| g.try_return_to(0)), Refusal::Mark);
+}
+
+#[test]
 fn a_clone_has_marks_of_its_own() {
     let mut graph = small();
     graph.mark();

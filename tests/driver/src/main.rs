@@ -18,6 +18,7 @@ mod guards;
 mod library;
 mod lines;
 mod mark_regions;
+mod mark_times;
 mod marked;
 mod marks;
 mod meter;

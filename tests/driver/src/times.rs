@@ -1,7 +1,8 @@
 // How long a call takes on each side, by the number of nodes: `effect`, the thinnest over `insert`, each builder, a
-// retain, a mark, a return to it and a guard. The original is timed as it is, not the metered one. `one` makes the calls of one builder alone,
-// for a count of their instructions.
-use crate::call::{Call, Marking, Ready, Side};
+// retain and a guard; marks are in mark_times.rs. The original is timed as it is, not the metered one. `one` makes the
+// calls of one builder alone, for a count of their instructions.
+use crate::call::{Call, Ready, Side};
+use crate::mark_times;
 use crate::marks::MARKS;
 use crate::native;
 use crate::original::apply;
@@ -13,23 +14,18 @@ use std::time::Instant;
 
 // The last is a full graph.
 const NODES: [usize; 4] = [16, 128, 500, 512];
-const BUILDER_NODES: [usize; 3] = [16, 128, 500];
+pub const BUILDER_NODES: [usize; 3] = [16, 128, 500];
 const NEW: usize = 10;
 // The largest value of an input that is divided by.
 const DIVISOR: i128 = 1000;
-const COPIES: usize = 8;
-const CALLS: usize = 4_000;
-// The nodes of an arm of a branch, beside the one of its guard.
-const ARM: usize = 8;
-// The marks that can be set beside the one that stands.
-#[cfg(library)]
-const MORE: usize = 15;
+pub const COPIES: usize = 8;
+pub const CALLS: usize = 4_000;
 // The smallest of so many measurements is taken.
 const TIMES: usize = 30;
 
 // A binary operator, with the type of its result.
 #[derive(Clone, Copy)]
-enum Pair {
+pub enum Pair {
     Add,
     Mul,
     Equal,
@@ -80,7 +76,7 @@ impl Pair {
 
 // A call as both sides have it, on nodes of Bits(16) but for Effect, Wide and Divisor.
 #[derive(Clone, Copy)]
-enum Work {
+pub enum Work {
     Effect(usize),
     Leaf(usize),
     Wide(usize),
@@ -343,17 +339,17 @@ fn binary(ty: native::ScalarType, op: u64, left: usize, right: usize) -> Call {
 }
 
 // The two tiers of the library.
-struct Tiers<'a> {
-    asking: &'a mut dyn Side,
-    twin: &'a mut dyn Side,
+pub struct Tiers<'a> {
+    pub asking: &'a mut dyn Side,
+    pub twin: &'a mut dyn Side,
 }
 
-fn smallest(mut measure: impl FnMut() -> f64) -> f64 {
+pub fn smallest(mut measure: impl FnMut() -> f64) -> f64 {
     (0..TIMES).map(|_| measure()).fold(f64::MAX, f64::min)
 }
 
 // Nanoseconds for each of the calls that `run` makes.
-fn timed(calls: usize, run: impl FnOnce()) -> f64 {
+pub fn timed(calls: usize, run: impl FnOnce()) -> f64 {
     let start = Instant::now();
     run();
     start.elapsed().as_nanos() as f64 / calls as f64
@@ -433,7 +429,7 @@ fn counted_put(region: &mut [u64], calls: &[Ready]) {
 }
 
 // The graph and the region that calls lead to.
-fn after(works: &[Work]) -> (Graph, Vec<u64>) {
+pub fn after(works: &[Work]) -> (Graph, Vec<u64>) {
     let mut graph = Graph::default();
     work(&mut graph, works);
     let mut same = native::Graph::default();
@@ -556,82 +552,6 @@ fn retain_times(tiers: &mut Tiers, nodes: usize) -> [f64; 3] {
     [original, twin, asking]
 }
 
-// A graph with a condition at its end, and an arm of a branch on it: a guard, and new nodes.
-fn branch(nodes: usize) -> [Vec<Work>; 2] {
-    let limit = nodes - 2;
-    let mut before: Vec<Work> = (0..limit).map(Work::Leaf).collect();
-    before.extend([Work::Limit, Work::IsBelow(0, limit)]);
-    let mut arm = before.clone();
-    arm.push(Work::Guard(limit + 1));
-    arm.extend((0..ARM).map(|id| Work::Binary(Pair::Add, id)));
-    [before, arm]
-}
-
-// A mark. The original's is a clone.
-fn mark_times(tiers: &mut Tiers, before: &[Work]) -> [f64; 3] {
-    let (graph, mut region) = after(before);
-    let original = smallest(|| {
-        let mut clones = Vec::with_capacity(COPIES);
-        timed(COPIES, || {
-            for _ in 0..COPIES {
-                clones.push(black_box(&graph).clone());
-            }
-        })
-    });
-    let [twin, asking] = [&mut tiers.twin, &mut tiers.asking].map(|side| {
-        let mut marks = vec![0; MARKS];
-        smallest(|| {
-            timed(CALLS, || {
-                for _ in 0..CALLS {
-                    marks[0] = 0;
-                    black_box(side.marking(&mut region, &mut marks, black_box(Marking::Mark)));
-                }
-            })
-        })
-    });
-    [original, twin, asking]
-}
-
-// A return to the mark after the arm. The original's is an assignment of a clone, since the mark stays.
-fn return_times(tiers: &mut Tiers, before: &[Work], arm: &[Work]) -> [f64; 3] {
-    let (saved, mut region) = after(before);
-    let mut marks = vec![0; MARKS];
-    tiers.asking.marking(&mut region, &mut marks, Marking::Mark);
-    let (graph, region) = after(arm);
-    let original = smallest(|| {
-        let mut graphs = vec![graph.clone(); COPIES];
-        timed(COPIES, || {
-            for graph in &mut graphs {
-                *graph = black_box(&saved).clone();
-            }
-        })
-    });
-    let [twin, asking] = [&mut tiers.twin, &mut tiers.asking].map(|side| {
-        smallest(|| {
-            let mut regions = vec![region.clone(); COPIES];
-            timed(COPIES, || {
-                for region in &mut regions {
-                    let call = black_box(Marking::ReturnTo(0));
-                    black_box(side.marking(region, &mut marks, call));
-                }
-            })
-        })
-    });
-    [original, twin, asking]
-}
-
-fn print_marks(tiers: &mut Tiers) {
-    println!("| marks, nodes | call | original | in graph | asking |");
-    println!("|---|---|---|---|---|");
-    for nodes in BUILDER_NODES {
-        let [before, arm] = branch(nodes);
-        let [original, twin, asking] = mark_times(tiers, &before);
-        println!("| {nodes} | mark | {original:.0} | {twin:.0} | {asking:.0} |");
-        let [original, twin, asking] = return_times(tiers, &before, &arm);
-        println!("| {nodes} | return | {original:.0} | {twin:.0} | {asking:.0} |");
-    }
-}
-
 fn print_retains(tiers: &mut Tiers) {
     println!("| retain, nodes | original | in graph | asking |");
     println!("|---|---|---|---|");
@@ -690,7 +610,7 @@ fn print_slow(tiers: &mut Tiers) {
 }
 
 #[cfg(library)]
-fn bound_work(graph: &mut scalars::Graph, works: &[Work]) {
+pub fn bound_work(graph: &mut scalars::Graph, works: &[Work]) {
     for work in works {
         black_box(black_box(*work).bound(graph));
     }
@@ -724,37 +644,6 @@ fn print_binding(tiers: &mut Tiers) {
     }
 }
 
-// Marks and returns through the binding.
-#[cfg(library)]
-fn print_bound_marks() {
-    println!("| marks, nodes | mark through the binding | return |");
-    println!("|---|---|---|");
-    for nodes in BUILDER_NODES {
-        let [before, arm] = branch(nodes);
-        let mut marked = scalars::Graph::default();
-        bound_work(&mut marked, &before);
-        marked.mark();
-        let mark = smallest(|| {
-            let mut graphs = vec![marked.clone(); COPIES];
-            timed(COPIES * MORE, || {
-                for graph in &mut graphs {
-                    for _ in 0..MORE {
-                        black_box(graph.mark());
-                    }
-                }
-            })
-        });
-        bound_work(&mut marked, &arm[before.len()..]);
-        let back = smallest(|| {
-            let mut graphs = vec![marked.clone(); COPIES];
-            timed(COPIES, || {
-                graphs.iter_mut().for_each(|graph| graph.return_to(0));
-            })
-        });
-        println!("| {nodes} | {mark:.0} | {back:.0} |");
-    }
-}
-
 pub fn print(asking: &mut dyn Side, twin: &mut dyn Side) {
     let mut tiers = Tiers { asking, twin };
     println!(
@@ -769,7 +658,7 @@ pub fn print(asking: &mut dyn Side, twin: &mut dyn Side) {
     println!();
     print_retains(&mut tiers);
     println!();
-    print_marks(&mut tiers);
+    mark_times::print(&mut tiers);
     println!();
     print_guards(&mut tiers);
     println!();
@@ -779,6 +668,6 @@ pub fn print(asking: &mut dyn Side, twin: &mut dyn Side) {
         println!();
         print_binding(&mut tiers);
         println!();
-        print_bound_marks();
+        mark_times::print_bound();
     }
 }
