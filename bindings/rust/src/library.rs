@@ -200,9 +200,9 @@ impl Clone for Marks {
 }
 
 /// The words of a graph and of its marks. They begin as zeros, the empty graph with no mark, and the methods here alone
-/// change them, each by one call of the library. The theorem `grown-graph` (crates/meaning/proofs/Demand3.antt) says of
-/// every list of calls from there that the regions left pass question 1. So this is always a graph with its marks, and
-/// the functions for a caller who knows that can be used, which do not ask.
+/// change them, each by one call of the library. The theorems `grown-graph` and `grown-marked`
+/// (crates/meaning/proofs/Demand3.antt) say of every list of calls from there that the regions left pass question 1. So
+/// this is always a graph with its marks, and the functions for a caller who knows that can be used, which do not ask.
 #[derive(Clone)]
 pub(crate) struct Region {
     graph: Box<[u64; REGION]>,
