@@ -1,21 +1,22 @@
--- Signs, amounts of shifts and sizes of divisors. Assumes nothing.
+-- Signs, amounts of shifts, sizes of divisors and products of ranges from 0 up. Assumes nothing.
 use mathlib.Core.Path.{_≡_, refl, sym, ap, _∙_}
-use mathlib.Core.Bool.{Bool, true, false, not, cond}
+use mathlib.Core.Bool.{Bool, true, false, not, cond, _&&_, false≢true}
 use mathlib.Core.Option.{some}
 use Prim.Native.Nat.{ℕ, min, suc, _+_, _-_, _*_, _%_, _^_, _<_, _≤_}
-use native.Mathlib.Nat.{min-eq-right, one-mul, mod-eq-of-lt}
+use native.Mathlib.Nat.{min-eq-right, one-mul, zero-mul, mul-zero, mod-eq-of-lt}
 use native.Mathlib.Omega.{arith}
-use borrow.Author.Tests.{le-leb}
-use lib.Dec.{ltb, lit≤}
-use lib.IntN.{ℤ, pos, negsuc, _-ℤ_}
+use borrow.Author.Tests.{eqb-true, le-leb, le-ltb}
+use lib.Dec.{eqb, ltb, lit≤}
+use lib.IntN.{ℤ, pos, negsuc, _-ℤ_, _*ℤ_}
 use lib.Pow.{pow-lt}
 use lib.Signed.{leZ, mag}
 use Rattle.word.specs.declared.Word.{Word}
-use Rattle.word.specs.Value.{val, residue, signed, wrapped, fits, fitted, isNeg, maxZ}
+use Rattle.word.specs.Option.{only}
+use Rattle.word.specs.Value.{val, residue, signed, wrapped, fits, fitted, isNeg, eqZ, maxZ}
 use Rattle.word.proofs.Integer.{signed-low, residue-pos, residue-negsuc}
 use Rattle.word.proofs.Magnitudes.{answered}
 use Rattle.word.proofs.Sums.{under-twice, checked-sub}
-use Rattle.range.specs.Interval.{clamped}
+use Rattle.range.specs.Interval.{between, cornersOf, clamped}
 
 pub not-negative : (z : ℤ) → not (isNeg z) ≡ leZ (pos 0) z
 not-negative (pos n) = sym (le-leb 0 n (omega arith))
@@ -58,3 +59,29 @@ larger-size {x} {y} m n e f = rw (answered (fits (pos m)) x (pos m) e, answered 
     of : (t : Bool) → isNeg (cond t (pos m) (pos n)) ≡ false
     of true = refl
     of false = refl
+
+-- ---- products of ranges from 0 up
+
+last-corner : (t : Bool) (k : ℕ) → cornersOf (some (pos 0)) (some (pos 0)) (some (pos 0)) (only t (pos k)) ≡ between (some (pos 0)) (only t (pos k))
+last-corner true k = simp (le-ltb k 0 (omega arith))
+last-corner false k = refl
+
+second : (s : Bool) → s && false ≡ false
+second true = refl
+second false = refl
+
+first-test : (s t : Bool) → s && t ≡ true → s ≡ true
+first-test true t e = refl
+first-test false t e = e
+
+-- three of the four corners are 0, and the fourth is the greatest
+pub from-zero : (a b c d : ℤ) → eqZ a (pos 0) && not (isNeg b) ≡ true → eqZ c (pos 0) && not (isNeg d) ≡ true
+    → cornersOf (fitted (a *ℤ c)) (fitted (a *ℤ d)) (fitted (b *ℤ c)) (fitted (b *ℤ d)) ≡ between (some (pos 0)) (fitted (b *ℤ d))
+unfolding fits
+from-zero (pos i) (pos m) (pos j) (pos n) e f =
+    rw (eqb-true i 0 (first-test (eqb i 0) true e), eqb-true j 0 (first-test (eqb j 0) true f), zero-mul, zero-mul, mul-zero)
+    (last-corner (fits (pos (m * n))) (m * n))
+from-zero (pos i) (pos m) (pos j) (negsuc n) e f = absurd (false≢true (sym (second (eqb j 0)) ∙ f))
+from-zero (pos i) (pos m) (negsuc j) d e f = absurd (false≢true f)
+from-zero (pos i) (negsuc m) c d e f = absurd (false≢true (sym (second (eqb i 0)) ∙ e))
+from-zero (negsuc i) b c d e f = absurd (false≢true e)

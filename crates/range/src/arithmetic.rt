@@ -25,7 +25,7 @@ pub fn between(low: MaybeSigned, high: MaybeSigned) -> MaybeRange
 }
 
 // The range from 0 up.
-fn up_to(high: MaybeSigned) -> MaybeRange
+pub(crate) fn up_to(high: MaybeSigned) -> MaybeRange
     ensures { λ r. ⌜ intervalOf r ≡ between (some (pos 0)) (valueOf high) ⌝ }
 {
     between(MaybeSigned::Some(Signed { lo: 0, hi: 0 }), high)

@@ -1,10 +1,13 @@
 // Product and quotient ranges: the results at the four corners, together.
 ghost use mathlib.Core.Path.{_≡_};
-ghost use Rattle.word.specs.Value.{valueOf};
+ghost use mathlib.Core.Bool.{not, _&&_};
+ghost use lib.IntN.{pos};
+ghost use Rattle.word.specs.Value.{valueOf, eqZ, isNeg};
 ghost use Rattle.range.specs.Interval.{boundsOf, intervalOf, mulInterval, quotInterval, divisible, cornersOf};
 ghost use Rattle.range.specs.Step.{spanOf};
 use crate::MaybeRange;
 use crate::Range;
+use crate::arithmetic::up_to;
 use word::MaybeSigned;
 use word::Signed;
 
@@ -64,6 +67,19 @@ fn span_of(
 }
 
 impl Range {
+    // From 0 up, as the ranges of Bits are: three of the corners of two such ranges are 0.
+    fn is_from_zero(self) -> bool
+        ensures { λ r. ⌜ r ≡ eqZ (boundsOf self .low) (pos 0) && not (isNeg (boundsOf self .high)) ⌝ }
+    {
+        let low = self.min;
+        let high = self.max;
+        if low.eq(Signed { lo: 0, hi: 0 }) {
+            !high.is_negative()
+        } else {
+            false
+        }
+    }
+
     pub fn mul(self, other: Range) -> MaybeRange
         ensures { λ r. ⌜ intervalOf r ≡ mulInterval (boundsOf self) (boundsOf other) ⌝ }
     {
@@ -71,6 +87,9 @@ impl Range {
         let b = self.max;
         let c = other.min;
         let d = other.max;
+        if self.is_from_zero() && other.is_from_zero() {
+            return up_to(b.checked_mul(d));
+        }
         span_of(
             a.checked_mul(c),
             a.checked_mul(d),
