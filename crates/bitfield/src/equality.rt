@@ -2,7 +2,9 @@
 ghost use mathlib.Core.Path.{_≡_};
 ghost use lib.ListN.{length};
 ghost use Rattle.word.specs.Value.{val};
-ghost use Rattle.graph.specs.Layout.{REGION};
+ghost use lib.Dec.{ltb};
+ghost use Rattle.evaluate.specs.Operator.{BINARY};
+ghost use Rattle.graph.specs.Layout.{REGION, OPERATION, wordAt};
 ghost use mathlib.Core.Option.{some};
 ghost use Rattle.range.specs.declared.ScalarType.the-variants as ty;
 ghost use Rattle.graph.specs.Node as node;
@@ -15,6 +17,7 @@ use crate::MaybeUpdate;
 use crate::PairFold;
 use crate::Update;
 use evaluate::Binary;
+use evaluate::code::BINARY;
 use fold::ByConstant;
 use fold::MaybeByConstant;
 use fold::operator::same_binary;
@@ -22,6 +25,8 @@ use fold::shape::by_constant_at;
 use fold::shape::same_type;
 use graph::NodeId;
 use graph::Operation;
+use graph::layout::OPERATION;
+use graph::layout::word_at;
 use graph::read::literal;
 use graph::read::operation_at;
 use graph::read::type_at;
@@ -167,11 +172,21 @@ fn found_in(pair: PairFold) -> MaybeMasked
     }
 }
 
-// The masked comparison of two nodes: the left one as base, or where it says so the right one.
+fn is_not_binary(g: &[u64], id: NodeId) -> bool
+    requires { ⌜ length (now g) ≡ REGION ⌝ }
+    ensures { λ r. ⌜ r ≡ ltb (wordAt (now (g .entry)) (id .0) OPERATION) BINARY ⌝ }
+{
+    word_at(g, id.0, OPERATION) < BINARY
+}
+
+// The masked comparison of two nodes: the left one as base, or where it says so the right one. Where neither is a binary operation there is none.
 pub fn fold_masked_comparison(g: &[u64], op: Binary, left: NodeId, right: NodeId) -> MaybeMasked
     requires { ⌜ length (now g) ≡ REGION ⌝ }
     ensures { λ r. ⌜ maybeMaskOf r ≡ foldMaskedComparison (now (g .entry)) op (left .0) (right .0) ⌝ }
 {
+    if is_not_binary(g, left) && is_not_binary(g, right) {
+        return MaybeMasked::None;
+    }
     let pair = fold_pair(g, op, left, right);
     match pair {
         PairFold::Next => found_in(fold_pair(g, op, right, left)),
