@@ -1,5 +1,6 @@
 // The calls: every question in order, then the work. A refusal leaves every lent word as it was.
 pub mod by_name;
+mod direct;
 pub mod perform;
 pub mod reading;
 pub mod retain_nodes;

@@ -11,6 +11,7 @@ ghost use Rattle.native.specs.Call.{answerOf, called, isRefused};
 ghost use Rattle.request.specs.Request.{requestOf};
 ghost use Rattle.native.specs.Perform.{UNITS, settled, guardOut, worked, performed, left, requestInGraph, requestCall};
 use crate::Answer;
+use crate::direct;
 use answer::Refusal;
 use assume::Outcome;
 use assume::guard_assumed;
@@ -34,14 +35,14 @@ use request::questions::is_typed;
 // The units of a call.
 pub const UNITS: u64 = 1024;
 
-fn full_budget() -> Budget
+pub(crate) fn full_budget() -> Budget
     ensures { λ r. ⌜ r .units ≡ UNITS ⌝ }
 {
     Budget { units: UNITS }
 }
 
 // A builder's answer to a caller, who says what no room is.
-fn settle(built: Built, full: Refusal) -> Answer
+pub(crate) fn settle(built: Built, full: Refusal) -> Answer
     ensures { λ r. ⌜ answerOf r ≡ settled full (builtOf built) ⌝ }
 {
     match built {
@@ -80,21 +81,9 @@ fn work(g: &mut [u64], request: Request, full: Refusal) -> Answer
         Request::Constant(value, ty) => settle(leaf::constant(g, ty, value), full),
         Request::Input(id, range, ty) => settle(leaf::input(g, id, ty, range), full),
         Request::Effect(id, ty) => settle(leaf::effect(g, id, ty), full),
-        Request::Unary(value, ty, op) => {
-            let done = build::unary(g, full_budget(), ty, op, value);
-            let built = done.built;
-            settle(built, full)
-        }
-        Request::Binary(left, right, ty, op) => {
-            let done = build::binary(g, full_budget(), ty, op, left, right);
-            let built = done.built;
-            settle(built, full)
-        }
-        Request::Slice(value, offset, width) => {
-            let done = build::slice(g, full_budget(), value, offset as u64, width);
-            let built = done.built;
-            settle(built, full)
-        }
+        Request::Unary(value, ty, op) => direct::unary(g, ty, op, value, full),
+        Request::Binary(left, right, ty, op) => direct::binary(g, ty, op, left, right, full),
+        Request::Slice(value, offset, width) => direct::slice(g, value, offset as u64, width, full),
         Request::Concat(high, low, low_width, width) => {
             let done = build::concat(g, full_budget(), high, low, low_width, width);
             let built = done.built;

@@ -35,65 +35,47 @@ settle-requires-3 c κs = search needs
 enum-known-request-4 : tie.Need-enum-known-request-4
 enum-known-request-4 c = search needs
 
-full-budget-requires : tie.Need-full-budget-requires
-full-budget-requires c κs = search needs
-
 unary-requires : tie.Need-unary-requires
-unary-requires c κs = graph-facts _ (c .before .before .before .before .before .before .pre) .length
-
-settle-requires-4 : tie.Need-settle-requires-4
-settle-requires-4 c κs = search needs
+unary-requires c κs = graph-facts _ (c .before .before .before .before .before .pre) .length
 
 enum-known-request-5 : tie.Need-enum-known-request-5
 enum-known-request-5 c = search needs
 
-full-budget-requires-2 : tie.Need-full-budget-requires-2
-full-budget-requires-2 c κs = search needs
-
 binary-requires : tie.Need-binary-requires
-binary-requires c κs = graph-facts _ (c .before .before .before .before .before .before .pre) .length
-
-settle-requires-5 : tie.Need-settle-requires-5
-settle-requires-5 c κs = search needs
+binary-requires c κs = graph-facts _ (c .before .before .before .before .before .pre) .length
 
 enum-known-request-6 : tie.Need-enum-known-request-6
 enum-known-request-6 c = search needs
-
-full-budget-requires-3 : tie.Need-full-budget-requires-3
-full-budget-requires-3 c κs = search needs
 
 cast-slice : tie.Need-cast-slice
 cast-slice c = search needs
 
 slice-requires : tie.Need-slice-requires
-slice-requires c κs = graph-facts _ (c .before .before .before .before .before .before .pre) .length
-
-settle-requires-6 : tie.Need-settle-requires-6
-settle-requires-6 c κs = search needs
+slice-requires c κs = graph-facts _ (c .before .before .before .before .before .pre) .length
 
 enum-known-request-7 : tie.Need-enum-known-request-7
 enum-known-request-7 c = search needs
 
-full-budget-requires-4 : tie.Need-full-budget-requires-4
-full-budget-requires-4 c κs = search needs
+full-budget-requires : tie.Need-full-budget-requires
+full-budget-requires c κs = search needs
 
 concat-requires : tie.Need-concat-requires
 concat-requires c κs = graph-facts _ (c .before .before .before .before .before .before .pre) .length
 
-settle-requires-7 : tie.Need-settle-requires-7
-settle-requires-7 c κs = search needs
+settle-requires-4 : tie.Need-settle-requires-4
+settle-requires-4 c κs = search needs
 
 enum-known-request-8 : tie.Need-enum-known-request-8
 enum-known-request-8 c = search needs
 
-full-budget-requires-5 : tie.Need-full-budget-requires-5
-full-budget-requires-5 c κs = search needs
+full-budget-requires-2 : tie.Need-full-budget-requires-2
+full-budget-requires-2 c κs = search needs
 
 unsigned-range-requires : tie.Need-unsigned-range-requires
 unsigned-range-requires c κs = graph-facts _ (c .before .before .before .before .before .before .pre) .length
 
-settle-requires-8 : tie.Need-settle-requires-8
-settle-requires-8 c κs = search needs
+settle-requires-5 : tie.Need-settle-requires-5
+settle-requires-5 c κs = search needs
 
 enum-known-request-9 : tie.Need-enum-known-request-9
 enum-known-request-9 c = search needs
@@ -133,35 +115,35 @@ same-length-4 c = search needs
 
 returns-4 : tie.Need-returns-4
 unfolding worked
-returns-4 c = rw (c .before .before .before .before .before .before .before .request4 .given .1, c .settle4 .ensures) (ap (builderOut (c .before .before .before .before .before .before .before .before .before .before .args .full)) (rw (c .before .before .before .before .full-budget .ensures) at (c .before .before .before .unary .ensures)))
+returns-4 c = rw (c .before .before .before .before .before .request4 .given .1) (c .before .before .unary .ensures)
 
 same-length-5 : tie.Need-same-length-5
 same-length-5 c = search needs
 
 returns-5 : tie.Need-returns-5
 unfolding worked
-returns-5 c = rw (c .before .before .before .before .before .before .before .request5 .given .1, c .settle5 .ensures) (ap (builderOut (c .before .before .before .before .before .before .before .before .before .before .args .full)) (rw (c .before .before .before .before .full-budget2 .ensures) at (c .before .before .before .binary .ensures)))
+returns-5 c = rw (c .before .before .before .before .before .request5 .given .1) (c .before .before .binary .ensures)
 
 same-length-6 : tie.Need-same-length-6
 same-length-6 c = search needs
 
 returns-6 : tie.Need-returns-6
 unfolding worked
-returns-6 c = rw (c .before .before .before .before .before .before .before .request6 .given .1, c .settle6 .ensures) (ap (builderOut (c .before .before .before .before .before .before .before .before .before .before .args .full)) (rw (c .before .before .before .before .full-budget3 .ensures) at (c .before .before .before .slice .ensures)))
+returns-6 c = rw (c .before .before .before .before .before .request6 .given .1) (c .before .before .slice .ensures)
 
 same-length-7 : tie.Need-same-length-7
 same-length-7 c = search needs
 
 returns-7 : tie.Need-returns-7
 unfolding worked
-returns-7 c = rw (c .before .before .before .before .before .before .before .request7 .given .1, c .settle7 .ensures) (ap (builderOut (c .before .before .before .before .before .before .before .before .before .before .args .full)) (rw (c .before .before .before .before .full-budget4 .ensures) at (c .before .before .before .concat .ensures)))
+returns-7 c = rw (c .before .before .before .before .before .before .before .request7 .given .1, c .settle4 .ensures) (ap (builderOut (c .before .before .before .before .before .before .before .before .before .before .args .full)) (rw (c .before .before .before .before .full-budget .ensures) at (c .before .before .before .concat .ensures)))
 
 same-length-8 : tie.Need-same-length-8
 same-length-8 c = search needs
 
 returns-8 : tie.Need-returns-8
 unfolding worked
-returns-8 c = rw (c .before .before .before .before .before .before .before .request8 .given .1, c .settle8 .ensures) (ap (builderOut (c .before .before .before .before .before .before .before .before .before .before .args .full)) (rw (c .before .before .before .before .full-budget5 .ensures) at (c .before .before .before .unsigned-range .ensures)))
+returns-8 c = rw (c .before .before .before .before .before .before .before .request8 .given .1, c .settle5 .ensures) (ap (builderOut (c .before .before .before .before .before .before .before .before .before .before .args .full)) (rw (c .before .before .before .before .full-budget2 .ensures) at (c .before .before .before .unsigned-range .ensures)))
 
 same-length-9 : tie.Need-same-length-9
 same-length-9 c = search needs
@@ -192,26 +174,20 @@ work-spec =
     effect-requires
     settle-requires-3
     enum-known-request-4
-    full-budget-requires
     unary-requires
-    settle-requires-4
     enum-known-request-5
-    full-budget-requires-2
     binary-requires
-    settle-requires-5
     enum-known-request-6
-    full-budget-requires-3
     cast-slice
     slice-requires
-    settle-requires-6
     enum-known-request-7
-    full-budget-requires-4
+    full-budget-requires
     concat-requires
-    settle-requires-7
+    settle-requires-4
     enum-known-request-8
-    full-budget-requires-5
+    full-budget-requires-2
     unsigned-range-requires
-    settle-requires-8
+    settle-requires-5
     enum-known-request-9
     assume-or-restore-requires
     enum-told
