@@ -5,20 +5,35 @@ ghost use mathlib.Core.Bool.{true};
 ghost use mathlib.Core.Path.{_≡_};
 ghost use Rattle.graph.specs.Node.{pair, rangeOf};
 ghost use Rattle.graph.specs.WellFormed.{isGraph};
-ghost use Rattle.request.specs.Request.{unsignedRange};
+ghost use Rattle.request.specs.Request.{requestOf, unsignedRange};
 ghost use Rattle.native.specs.Perform.{requestInGraph, requestCall};
 ghost use Rattle.export.specs.Numbers.{constantByCode, inputByCode, effectByCode, unaryByCodes, binaryByCodes, sliceByNumbers, concatByNumbers, guardByNumbers, askedBy};
 ghost use Rattle.export.specs.Export.{exported, numbered};
 use crate::requests::Numbers;
+use crate::requests::binary_request;
+use crate::requests::concat_request;
+use crate::requests::constant_request;
 use crate::requests::request_of;
+use crate::requests::slice_request;
+use crate::requests::unary_request;
 use native::perform::call;
 use native::perform::call_in_graph;
+use request::Request;
+use word::Word;
 
 fn answered_in_graph(g: &mut [u64], numbers: Numbers) -> u64
     requires { ⌜ isGraph (now g) ≡ true ⌝ }
     ensures { λ r. ⌜ exported r (now (g .exit)) ≡ numbered (requestInGraph (now (g .entry)) (askedBy numbers)) ⌝ }
 {
     call_in_graph(g, request_of(numbers)).number()
+}
+
+// The same of a request, for the calls whose request is made where they stand: their numbers are not written and read again.
+fn asked_in_graph(g: &mut [u64], request: Request) -> u64
+    requires { ⌜ isGraph (now g) ≡ true ⌝ }
+    ensures { λ r. ⌜ exported r (now (g .exit)) ≡ numbered (requestInGraph (now (g .entry)) (requestOf request)) ⌝ }
+{
+    call_in_graph(g, request).number()
 }
 
 fn answered(g: &mut [u64], numbers: Numbers) -> u64
@@ -38,7 +53,7 @@ pub extern "C" fn scalars_constant_in_graph(
     requires { ⌜ isGraph (now g) ≡ true ⌝ }
     ensures { λ r. ⌜ exported r (now (g .exit)) ≡ numbered (requestInGraph (now (g .entry)) (constantByCode code width (pair low high))) ⌝ }
 {
-    answered_in_graph(g, Numbers::Constant(code, width, low, high))
+    asked_in_graph(g, constant_request(code, width, Word { lo: low, hi: high }))
 }
 
 #[no_mangle]
@@ -134,7 +149,7 @@ pub extern "C" fn scalars_unary_in_graph(
     requires { ⌜ isGraph (now g) ≡ true ⌝ }
     ensures { λ r. ⌜ exported r (now (g .exit)) ≡ numbered (requestInGraph (now (g .entry)) (unaryByCodes code width operator parameter id)) ⌝ }
 {
-    answered_in_graph(g, Numbers::Unary(code, width, operator, parameter, id))
+    asked_in_graph(g, unary_request(code, width, operator, parameter, id))
 }
 
 #[no_mangle]
@@ -163,7 +178,7 @@ pub extern "C" fn scalars_binary_in_graph(
     requires { ⌜ isGraph (now g) ≡ true ⌝ }
     ensures { λ r. ⌜ exported r (now (g .exit)) ≡ numbered (requestInGraph (now (g .entry)) (binaryByCodes code width operator left right)) ⌝ }
 {
-    answered_in_graph(g, Numbers::Binary(code, width, operator, left, right))
+    asked_in_graph(g, binary_request(code, width, operator, left, right))
 }
 
 #[no_mangle]
@@ -185,7 +200,7 @@ pub extern "C" fn scalars_slice_in_graph(g: &mut [u64], id: u64, offset: u64, wi
     requires { ⌜ isGraph (now g) ≡ true ⌝ }
     ensures { λ r. ⌜ exported r (now (g .exit)) ≡ numbered (requestInGraph (now (g .entry)) (sliceByNumbers id offset width)) ⌝ }
 {
-    answered_in_graph(g, Numbers::Slice(id, offset, width))
+    asked_in_graph(g, slice_request(id, offset, width))
 }
 
 #[no_mangle]
@@ -206,7 +221,7 @@ pub extern "C" fn scalars_concat_in_graph(
     requires { ⌜ isGraph (now g) ≡ true ⌝ }
     ensures { λ r. ⌜ exported r (now (g .exit)) ≡ numbered (requestInGraph (now (g .entry)) (concatByNumbers high low «low_width» width)) ⌝ }
 {
-    answered_in_graph(g, Numbers::Concat(high, low, low_width, width))
+    asked_in_graph(g, concat_request(high, low, low_width, width))
 }
 
 #[no_mangle]

@@ -44,7 +44,7 @@ pub enum Numbers {
     Guard(u64, u64),
 }
 
-fn constant_request(code: u64, width: u64, value: Word) -> Request
+pub(crate) fn constant_request(code: u64, width: u64, value: Word) -> Request
     ensures { λ r. ⌜ requestOf r ≡ constantByCode code width (val value) ⌝ }
 {
     let named = type_by_code(code, width);
@@ -74,7 +74,13 @@ fn effect_request(number: u64, code: u64, width: u64) -> Request
     }
 }
 
-fn unary_request(code: u64, width: u64, operator: u64, parameter: u64, id: u64) -> Request
+pub(crate) fn unary_request(
+    code: u64,
+    width: u64,
+    operator: u64,
+    parameter: u64,
+    id: u64,
+) -> Request
     ensures { λ r. ⌜ requestOf r ≡ unaryByCodes code width operator parameter id ⌝ }
 {
     let unnamed = Request::UnnamedOperation(
@@ -94,7 +100,7 @@ fn unary_request(code: u64, width: u64, operator: u64, parameter: u64, id: u64) 
     Request::Unary(NodeId(id), ty, op)
 }
 
-fn binary_request(code: u64, width: u64, operator: u64, left: u64, right: u64) -> Request
+pub(crate) fn binary_request(code: u64, width: u64, operator: u64, left: u64, right: u64) -> Request
     ensures { λ r. ⌜ requestOf r ≡ binaryByCodes code width operator left right ⌝ }
 {
     let unnamed = Request::UnnamedOperation(NodeId(left), NodeId(right), clamped_width(width), 0);
@@ -109,13 +115,13 @@ fn binary_request(code: u64, width: u64, operator: u64, left: u64, right: u64) -
     Request::Binary(NodeId(left), NodeId(right), ty, op)
 }
 
-fn slice_request(id: u64, offset: u64, width: u64) -> Request
+pub(crate) fn slice_request(id: u64, offset: u64, width: u64) -> Request
     ensures { λ r. ⌜ requestOf r ≡ sliceByNumbers id offset width ⌝ }
 {
     Request::Slice(NodeId(id), clamped_width(offset), clamped_width(width))
 }
 
-fn concat_request(high: u64, low: u64, low_width: u64, width: u64) -> Request
+pub(crate) fn concat_request(high: u64, low: u64, low_width: u64, width: u64) -> Request
     ensures { λ r. ⌜ requestOf r ≡ concatByNumbers high low «low_width» width ⌝ }
 {
     Request::Concat(
