@@ -2,7 +2,7 @@
 ghost use mathlib.Core.Path.{_≡_};
 ghost use Rattle.answer.specs.Refusal.{refusalNumber};
 
-// The questions put to a call, in their order: what a no to each refuses.
+// What a no to each question refuses, by the questions' numbers.
 pub enum Refusal {
     Graph,
     Width,
