@@ -1,5 +1,6 @@
 // Interning: the lowest node with the same key, or a new node.
 ghost use mathlib.Core.Path.{_≡_};
+ghost use mathlib.Core.Bool.{true};
 ghost use Prim.Native.Nat.{min, max, _+_, _-_, _*_, _<_, _≤_};
 ghost use lib.ListN.{length, take};
 ghost use lib.Seq.{paste};
@@ -57,40 +58,57 @@ fn same_key(g: &[u64], at: usize, words: &[u64; SIZE]) -> bool
     same_words(g, at, words)
 }
 
-// Have the four nodes whose words begin at `at` another first field?
-fn are_apart(g: &[u64], at: usize, first: u64) -> bool
-    requires { ⌜ at + 4 * WORDS ≤ length (now g) ⌝ }
-    ensures { λ r. ⌜ r ≡ areApart (now (g .entry)) first at 4 ⌝ }
+// How many of the eight nodes whose words begin at `at` come before the first that has this first field? All, if none has it.
+fn apart(g: &[u64], at: usize, first: u64) -> u64
+    requires { ⌜ at + 8 * WORDS ≤ length (now g) ⌝ }
+    ensures { λ r. ⌜ (r ≤ 8) × (areApart (now (g .entry)) first at r ≡ true) ⌝ }
 {
     if g[at + X] == first {
-        return false;
+        return 0;
     }
     if g[at + SIZE + X] == first {
-        return false;
+        return 1;
     }
-    if g[at + SIZE + SIZE + X] == first {
-        return false;
+    if g[at + 2 * SIZE + X] == first {
+        return 2;
     }
-    if g[at + SIZE + SIZE + SIZE + X] == first {
-        return false;
+    if g[at + 3 * SIZE + X] == first {
+        return 3;
     }
-    true
+    if g[at + 4 * SIZE + X] == first {
+        return 4;
+    }
+    if g[at + 5 * SIZE + X] == first {
+        return 5;
+    }
+    if g[at + 6 * SIZE + X] == first {
+        return 6;
+    }
+    if g[at + 7 * SIZE + X] == first {
+        return 7;
+    }
+    8
 }
 
-// Past nodes with another first field, four at a time: the search from there on has the same answer.
+// Past nodes with another first field, sixteen at a time: the search from there on has the same answer. The last sixteen may reach past the end, not past the region.
 fn pass_over(g: &[u64], from: u64, end: u64, words: &[u64; SIZE]) -> u64
     requires { ⌜ (length (now g) ≡ REGION) × (end ≤ LIMIT) × (length (now words) ≡ WORDS) ⌝ }
     ensures { λ r. ⌜ (from ≤ r) × (lowest (sameKey (now (g .entry)) (now (words .entry))) r (end - r) ≡ lowest (sameKey (now (g .entry)) (now (words .entry))) from (end - from)) ⌝ }
 {
     let first = words[X];
-    let last = if 3 < end { end - 3 } else { 0 };
+    let last = if end < LIMIT - 15 { end } else { LIMIT - 15 };
     let mut node = from;
     while node < last {
         let at = (FIRST + WORDS * node) as usize;
-        if !are_apart(g, at, first) {
-            return node;
+        let low = apart(g, at, first);
+        if low < 8 {
+            return node + low;
         }
-        node += 4;
+        let high = apart(g, at + 8 * SIZE, first);
+        if high < 8 {
+            return node + 8 + high;
+        }
+        node += 16;
     }
     node
 }
