@@ -13,7 +13,7 @@ use lib.Signed.{ltZ, leZ, _≤ℤ_}
 use Rattle.word.specs.Value.{signed, residue, eqZ}
 use Rattle.word.specs.Option.{fromBool}
 use Rattle.word.proofs.Integer.{residue-signed}
-use Rattle.word.proofs.Orders.{le-not-less}
+use Rattle.word.proofs.Orders.{le-not-less, same-is}
 use Rattle.range.specs.Interval.{Interval, _∈_}
 use Rattle.range.specs.declared.ScalarType.{ScalarType}
 use Rattle.range.specs.declared.ScalarType.the-variants as ty
@@ -40,7 +40,7 @@ use Rattle.meaning.proofs.Answers.{by-test, by-given, of-any, Each, eac
 use Rattle.meaning.proofs.Invariant.{Inv, resolve-leads, Kept, kept-refl, kept-trans}
 use Rattle.meaning.proofs.Views.{same-type, value-small, value-pattern}
 use Rattle.meaning.proofs.Ranges.{fitted-is}
-use Rattle.meaning.proofs.Compared.{less-false, same-is, same-parts, read, unsigned}
+use Rattle.meaning.proofs.Compared.{less-false, same-parts, read, unsigned}
 use Rattle.meaning.proofs.Field.{means-at, below-at, typed-at, operands}
 use Rattle.meaning.proofs.Undone.{Obeys, obeys, Bounded}
 use Rattle.meaning.proofs.Narrowed.{bounded-ext, refined-kept}

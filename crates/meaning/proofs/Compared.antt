@@ -6,7 +6,7 @@ use mathlib.Core.Option.{Option, none, some}
 use Prim.Native.Nat.{ℕ, zero, suc, zero-le, _+_, _-_, _*_, _%_, _^_, _≤_, _<_}
 use native.Mathlib.Nat.{zero-mod, mod-eq-of-lt, le-refl, mul-one, div-one, mod-mod, min-eq-left, lt-of-le-of-lt}
 use native.Mathlib.Omega.{arith}
-use borrow.Author.Tests.{eq-eqb, ne-eqb, eqb-true, lt-ltb, le-ltb, le-leb}
+use borrow.Author.Tests.{eq-eqb, ne-eqb, lt-ltb, le-ltb, le-leb}
 use lib.Bits.{bitAnd, bitOr, bitXor, and-self, or-self, xor-self, and-le-r, and-mask, and-mod, or-mod, xor-mod, and-zero-r, or-zero-r, xor-zero-r, or-add-and}
 use lib.Dec.{eqb, ltb, leb}
 use lib.IntN.{ℤ, pos, negsuc, _+ℤ_, _-ℤ_, _*ℤ_, +ℤ-invr, +ℤ-idr, *ℤ-zero}
@@ -16,7 +16,7 @@ use Rattle.word.specs.Value.{signed, residue, eqZ, fits, fitted, isPowerOfTwo}
 use Rattle.word.specs.Option.{provided, mapped, fromBool}
 use Rattle.word.proofs.Integer.{signed-low, signed-high, signed-mag, residue-signed, lt-or-ge}
 use Rattle.word.proofs.Counts.{power-of-two}
-use Rattle.word.proofs.Orders.{le-not-less}
+use Rattle.word.proofs.Orders.{le-not-less, same-is}
 use Rattle.range.specs.Interval.{Interval, _∈_, sameInterval, nonnegative}
 use Rattle.range.specs.declared.ScalarType.{ScalarType}
 use Rattle.range.specs.declared.ScalarType.the-variants as ty
@@ -42,12 +42,6 @@ use Rattle.meaning.proofs.Constants.{reduced-same, pattern, size-pos, v
 
 pub less-false : (x y : ℤ) → ltZ x y ≡ false → y ≤ℤ x
 less-false x y e = at-most y x (le-not-less y x e)
-
-pub same-is : (x y : ℤ) → eqZ x y ≡ true → x ≡ y
-same-is (pos m) (pos n) e = ap pos (eqb-true m n e)
-same-is (pos m) (negsuc n) e = cc
-same-is (negsuc m) (pos n) e = cc
-same-is (negsuc m) (negsuc n) e = ap negsuc (eqb-true m n e)
 
 pub same-parts : (x y : ℤ) → up x + down y ≡ up y + down x → x ≡ y
 same-parts (pos m) (pos n) e = ap pos (omega arith)

@@ -1,22 +1,24 @@
--- Signs, amounts of shifts, sizes of divisors and products of ranges from 0 up. Assumes nothing.
+-- Signs, amounts of shifts, sizes of divisors, products of ranges from 0 up and quotients of rising ones. Assumes nothing.
 use mathlib.Core.Path.{_≡_, refl, sym, ap, _∙_}
 use mathlib.Core.Bool.{Bool, true, false, not, cond, _&&_, false≢true}
-use mathlib.Core.Option.{some}
-use Prim.Native.Nat.{ℕ, min, suc, _+_, _-_, _*_, _%_, _^_, _<_, _≤_}
-use native.Mathlib.Nat.{min-eq-right, one-mul, zero-mul, mul-zero, mod-eq-of-lt}
+use mathlib.Core.Logic.{⊎-elim}
+use mathlib.Core.Option.{Option, none, some}
+use Prim.Native.Nat.{ℕ, min, suc, _+_, _-_, _*_, _/_, _%_, _^_, _<_, _≤_}
+use native.Mathlib.Nat.{min-eq-right, one-mul, zero-mul, mul-zero, mod-eq-of-lt, le-refl, le-trans, le-antisymm, lt-of-le-of-lt}
 use native.Mathlib.Omega.{arith}
-use borrow.Author.Tests.{eqb-true, le-leb, le-ltb}
-use lib.Dec.{eqb, ltb, lit≤}
+use borrow.Author.Tests.{eqb-true, le-leb, leb-true, lt-ltb, le-ltb, ltb-false}
+use lib.Dec.{eqb, ltb, leb, lit≤}
 use lib.IntN.{ℤ, pos, negsuc, _-ℤ_, _*ℤ_}
 use lib.Pow.{pow-lt}
 use lib.Signed.{leZ, mag}
 use Rattle.word.specs.declared.Word.{Word}
 use Rattle.word.specs.Option.{only}
-use Rattle.word.specs.Value.{val, residue, signed, wrapped, fits, fitted, isNeg, eqZ, maxZ}
-use Rattle.word.proofs.Integer.{signed-low, residue-pos, residue-negsuc}
+use Rattle.word.specs.Value.{val, residue, signed, wrapped, fits, fitted, quotient, isNeg, eqZ, minZ, maxZ}
+use Rattle.word.proofs.Integer.{signed-low, residue-pos, residue-negsuc, lt-or-ge}
 use Rattle.word.proofs.Magnitudes.{answered}
 use Rattle.word.proofs.Sums.{under-twice, checked-sub}
 use Rattle.range.specs.Interval.{between, cornersOf, clamped}
+use Rattle.range.proofs.Order.{div-le}
 
 pub not-negative : (z : ℤ) → not (isNeg z) ≡ leZ (pos 0) z
 not-negative (pos n) = sym (le-leb 0 n (omega arith))
@@ -74,6 +76,10 @@ first-test : (s t : Bool) → s && t ≡ true → s ≡ true
 first-test true t e = refl
 first-test false t e = e
 
+second-test : (s t : Bool) → s && t ≡ true → t ≡ true
+second-test true t e = e
+second-test false t e = absurd (false≢true e)
+
 -- three of the four corners are 0, and the fourth is the greatest
 pub from-zero : (a b c d : ℤ) → eqZ a (pos 0) && not (isNeg b) ≡ true → eqZ c (pos 0) && not (isNeg d) ≡ true
     → cornersOf (fitted (a *ℤ c)) (fitted (a *ℤ d)) (fitted (b *ℤ c)) (fitted (b *ℤ d)) ≡ between (some (pos 0)) (fitted (b *ℤ d))
@@ -85,3 +91,80 @@ from-zero (pos i) (pos m) (pos j) (negsuc n) e f = absurd (false≢true (sym (se
 from-zero (pos i) (pos m) (negsuc j) d e f = absurd (false≢true f)
 from-zero (pos i) (negsuc m) c d e f = absurd (false≢true (sym (second (eqb i 0)) ∙ e))
 from-zero (negsuc i) b c d e f = absurd (false≢true e)
+
+-- ---- quotients of ranges that rise from 0 or more
+
+no-high : (o : Option ℤ) → between o none ≡ none
+no-high none = refl
+no-high (some l) = refl
+
+no-third : (o p q : Option ℤ) → cornersOf o p none q ≡ none
+no-third none p q = refl
+no-third (some x) none q = refl
+no-third (some x) (some y) q = refl
+
+module _ {x y : ℕ} (le : x ≤ y) where
+  least-first : minZ (pos x) (pos y) ≡ pos x
+  least-first = rw (le-ltb y x le)
+
+  greatest-second : maxZ (pos x) (pos y) ≡ pos y
+  greatest-second = rw (le-ltb y x le)
+
+  least-second : minZ (pos y) (pos x) ≡ pos x
+  least-second = same (ltb x y) (ltb-false x y)
+    where
+      same : (t : Bool) → (t ≡ false → y ≤ x) → cond t (pos x) (pos y) ≡ pos x
+      same true f = refl
+      same false f = ap pos (le-antisymm (f refl) le)
+
+  greatest-first : maxZ (pos y) (pos x) ≡ pos y
+  greatest-first = same (ltb x y) (ltb-false x y)
+    where
+      same : (t : Bool) → (t ≡ false → y ≤ x) → cond t (pos y) (pos x) ≡ pos y
+      same true f = refl
+      same false f = ap pos (le-antisymm le (f refl))
+
+-- the corners a / c, a / d, b / c and b / d: the second is the least and the third the greatest
+outer-corners : (p q r s : ℕ) → q ≤ p → q ≤ s → p ≤ r → s ≤ r
+    → cornersOf (some (pos p)) (some (pos q)) (some (pos r)) (some (pos s)) ≡ between (some (pos q)) (some (pos r))
+outer-corners p q r s f g h k =
+    rw (least-second f, least-second k, least-first g, greatest-first f, greatest-first k, greatest-second h)
+
+module _ (i m j n : ℕ) (above : i ≤ m) (beyond : j ≤ n) where
+  abbrev Outer : Type 0
+  Outer =
+      cornersOf (quotient (pos i) (pos j)) (quotient (pos i) (pos n)) (quotient (pos m) (pos j)) (quotient (pos m) (pos n))
+      ≡ between (quotient (pos i) (pos n)) (quotient (pos m) (pos j))
+
+  -- b / c is the greatest, so all fit if it does
+  by-positive : 0 < j → Outer
+  unfolding quotient fits
+  by-positive p =
+      let q : 0 < n = omega arith in
+      let f : i / n ≤ i / j = div-le (le-refl i) p beyond in
+      let g : i / n ≤ m / n = div-le above q (le-refl n) in
+      let h : i / j ≤ m / j = div-le above p (le-refl j) in
+      let k : m / n ≤ m / j = div-le (le-refl m) p beyond in
+      rw (lt-ltb 0 j p, lt-ltb 0 n q)
+      (⊎-elim
+      (λ (l : m / j < 2 ^ 127).
+      rw (lt-ltb (m / j) (2 ^ 127) l, lt-ltb (m / n) (2 ^ 127) (lt-of-le-of-lt k l), lt-ltb (i / j) (2 ^ 127) (lt-of-le-of-lt h l), lt-ltb (i / n) (2 ^ 127) (lt-of-le-of-lt (le-trans f h) l))
+      (outer-corners (i / j) (i / n) (m / j) (m / n) f g h k))
+      (λ (l : 2 ^ 127 ≤ m / j). rw (le-ltb (m / j) (2 ^ 127) l) (no-third (only (ltb (i / j) (2 ^ 127)) (pos (i / j))) (only (ltb (i / n) (2 ^ 127)) (pos (i / n))) (only (ltb (m / n) (2 ^ 127)) (pos (m / n))) ∙ sym (no-high (only (ltb (i / n) (2 ^ 127)) (pos (i / n))))))
+      (lt-or-ge (m / j) (2 ^ 127)))
+
+  by-none : j ≤ 0 → Outer
+  unfolding quotient
+  by-none z = rw (le-ltb 0 j z) (sym (no-high (quotient (pos i) (pos n))))
+
+  outer : Outer
+  outer = ⊎-elim by-positive by-none (lt-or-ge 0 j)
+
+-- the least quotient of the least dividend, and the greatest of the greatest
+pub rising-quotients : (a b c d : ℤ) → leZ (pos 0) a && leZ a b ≡ true → leZ (pos 0) c && leZ c d ≡ true
+    → cornersOf (quotient a c) (quotient a d) (quotient b c) (quotient b d) ≡ between (quotient a d) (quotient b c)
+rising-quotients (pos i) (pos m) (pos j) (pos n) e f = outer i m j n (leb-true i m (second-test (leb 0 i) _ e)) (leb-true j n (second-test (leb 0 j) _ f))
+rising-quotients (pos i) (pos m) (pos j) (negsuc n) e f = absurd (false≢true (sym (second (leb 0 j)) ∙ f))
+rising-quotients (pos i) (pos m) (negsuc j) d e f = absurd (false≢true f)
+rising-quotients (pos i) (negsuc m) c d e f = absurd (false≢true (sym (second (leb 0 i)) ∙ e))
+rising-quotients (negsuc i) b c d e f = absurd (false≢true e)

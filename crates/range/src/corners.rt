@@ -2,11 +2,13 @@
 ghost use mathlib.Core.Path.{_≡_};
 ghost use mathlib.Core.Bool.{not, _&&_};
 ghost use lib.IntN.{pos};
+ghost use lib.Signed.{leZ};
 ghost use Rattle.word.specs.Value.{valueOf, eqZ, isNeg};
 ghost use Rattle.range.specs.Interval.{boundsOf, intervalOf, mulInterval, quotInterval, divisible, cornersOf};
 ghost use Rattle.range.specs.Step.{spanOf};
 use crate::MaybeRange;
 use crate::Range;
+use crate::arithmetic::between;
 use crate::arithmetic::up_to;
 use word::MaybeSigned;
 use word::Signed;
@@ -124,6 +126,19 @@ impl Range {
         }
     }
 
+    // Not below 0, and in order.
+    fn is_rising(self) -> bool
+        ensures { λ r. ⌜ r ≡ leZ (pos 0) (boundsOf self .low) && leZ (boundsOf self .low) (boundsOf self .high) ⌝ }
+    {
+        let low = self.min;
+        if self.is_nonnegative() {
+            low.le(self.max)
+        } else {
+            false
+        }
+    }
+
+    // Two corners decide between rising ranges, and there are only two where one divisor is possible.
     pub fn divide_signed(self, other: Range) -> MaybeRange
         ensures { λ r. ⌜ intervalOf r ≡ quotInterval (boundsOf self) (boundsOf other) ⌝ }
     {
@@ -134,11 +149,14 @@ impl Range {
         let b = self.max;
         let c = other.min;
         let d = other.max;
-        span_of(
-            a.checked_div(c),
-            a.checked_div(d),
-            b.checked_div(c),
-            b.checked_div(d),
-        )
+        if self.is_rising() && other.is_rising() {
+            return between(a.checked_div(d), b.checked_div(c));
+        }
+        let first = a.checked_div(c);
+        let second = b.checked_div(c);
+        if c.eq(d) {
+            return span_of(first, first, second, second);
+        }
+        span_of(first, a.checked_div(d), second, b.checked_div(d))
     }
 }

@@ -2,12 +2,12 @@
 use mathlib.Core.Path.{_≡_, refl, sym, ap, _∙_, subst}
 use mathlib.Core.Bool.{true}
 use mathlib.Core.Logic.{_⊎_, inl, inr, ⊎-elim}
-use Prim.Native.Nat.{ℕ, zero, suc, _+_, _*_, _/_, _%_, _^_, _<_, _≤_}
+use Prim.Native.Nat.{ℕ, zero, suc, _+_, _-_, _*_, _/_, _%_, _^_, _<_, _≤_}
 use native.Mathlib.Nat.{zero-add, suc-add, mul-one, mul-comm, mul-le-mul-right, suc-mul, pow-suc}
 use native.Mathlib.Omega.{arith}
 use borrow.Author.Tests.{eqb-true}
 use lib.Bits.{block-half, block-odd, shifted-half, shifted-even}
-use lib.Count.{leadingZeros, trailingZeros, ones, under, leading-top, leading-length, leading-unique, ones-step}
+use lib.Count.{leadingZeros, trailingZeros, ones, under, leading-le, leading-top, leading-length, leading-unique, ones-step}
 use lib.Pow.{pow-add}
 use Rattle.word.specs.Value.{isPowerOfTwo}
 use Rattle.word.proofs.Integer.{lt-or-ge}
@@ -29,6 +29,17 @@ pub leading-low : (k l : ℕ) → l < 2 ^ k → k + leadingZeros k l ≡ leading
 leading-low k l f =
     let t = leading-length k l f in
     leading-unique (k + k) l (k + leadingZeros k l) (t .0) (omega (arith, t .1)) (t .2) (t .3)
+
+-- the bits from the highest set one down hold a number
+pub bits-hold : (k n : ℕ) → n < 2 ^ k → n < 2 ^ (k - leadingZeros k n)
+bits-hold k n f = let t = leading-length k n f in let e : k - leadingZeros k n ≡ t .0 = omega (arith, t .1) in rw e (t .2)
+
+-- their number, by halves
+pub bits-high : (k h l : ℕ) → 0 < h → h < 2 ^ k → l < 2 ^ k → k - leadingZeros k h + k ≡ k + k - leadingZeros (k + k) (h * 2 ^ k + l)
+bits-high k h l p f g = rw (← leading-high k h l p f g) (omega (arith, leading-le k h))
+
+pub bits-low : (k l : ℕ) → l < 2 ^ k → k - leadingZeros k l ≡ k + k - leadingZeros (k + k) l
+bits-low k l f = rw (← leading-low k l f) (omega (arith, leading-le k l))
 
 -- ---- trailing zeros
 

@@ -4,7 +4,7 @@ use mathlib.Core.Bool.{Bool, true, false, not}
 use Prim.Native.Nat.{ℕ, _+_, _-_, _*_, _^_, _<_, _≤_}
 use native.Mathlib.Nat.{le-of-lt}
 use native.Mathlib.Omega.{arith}
-use borrow.Author.Tests.{lt-ltb, le-ltb, lt-leb, le-leb, ltb-true, ltb-false, eq-eqb, ne-eqb}
+use borrow.Author.Tests.{lt-ltb, le-ltb, lt-leb, le-leb, ltb-true, ltb-false, eq-eqb, ne-eqb, eqb-true}
 use lib.Dec.{leb, ltb}
 use lib.IntN.{ℤ, pos, negsuc}
 use lib.Signed.{ltZ, leZ}
@@ -67,6 +67,12 @@ half-unique x y f g e = sym (toZ-ofZ w64 x f) ∙ ap (toZ w64) e ∙ toZ-ofZ w64
 same-eqZ : (x : ℤ) → eqZ x x ≡ true
 same-eqZ (pos a) = eq-eqb a a refl
 same-eqZ (negsuc a) = eq-eqb a a refl
+
+pub same-is : (x y : ℤ) → eqZ x y ≡ true → x ≡ y
+same-is (pos m) (pos n) e = ap pos (eqb-true m n e)
+same-is (pos m) (negsuc n) e = cc
+same-is (negsuc m) (pos n) e = cc
+same-is (negsuc m) (negsuc n) e = ap negsuc (eqb-true m n e)
 
 differ-eqZ : (x y : ℤ) → (x ≡ y → ⊥) → eqZ x y ≡ false
 differ-eqZ (pos a) (pos b) h = ne-eqb a b (λ e. h (ap pos e))

@@ -1,3 +1,4 @@
 pub mod Option
 pub mod Value
 pub mod Step
+pub mod Division

@@ -30,3 +30,16 @@ pub enum MaybeSigned {
     Some(Signed),
     None,
 }
+
+// What a division gives: the quotient, the remainder, and its number of steps.
+pub struct Division {
+    pub quotient: Word,
+    pub remainder: Word,
+    pub steps: u32,
+}
+
+// A division; none by 0.
+pub enum MaybeDivision {
+    Some(Division),
+    None,
+}

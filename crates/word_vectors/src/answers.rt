@@ -1,4 +1,5 @@
 // The operations by their codes: the high digit is the group, the low one the operation.
+use word::MaybeDivision;
 use word::MaybeSigned;
 use word::MaybeWord;
 use word::Signed;
@@ -42,6 +43,20 @@ fn amount(w: Word) -> u32 {
     (w.lo % 0x1_0000_0000) as u32
 }
 
+// A division's quotient, remainder or number of steps.
+fn of_division(part: u64, r: MaybeDivision) -> Answer {
+    let MaybeDivision::Some(d) = r else {
+        return Answer::Nothing;
+    };
+    let quotient = d.quotient;
+    let remainder = d.remainder;
+    match part {
+        0 => Answer::Pattern(quotient),
+        1 => Answer::Pattern(remainder),
+        _ => of_count(d.steps as u64),
+    }
+}
+
 fn word_arithmetic(operation: u64, a: Word, b: Word) -> Answer {
     match operation {
         0 => Answer::Pattern(a.wrapping_add(b)),
@@ -51,6 +66,9 @@ fn word_arithmetic(operation: u64, a: Word, b: Word) -> Answer {
         4 => of_maybe_word(a.checked_mul(b)),
         5 => of_maybe_word(a.checked_div(b)),
         6 => of_maybe_word(a.checked_rem(b)),
+        7 => of_division(0, a.divide(b)),
+        8 => of_division(1, a.divide(b)),
+        9 => of_division(2, a.divide(b)),
         _ => Answer::Malformed,
     }
 }

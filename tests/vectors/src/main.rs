@@ -141,6 +141,15 @@ const SIGNED: [Operation; 23] = [
     operation(0x75, Unary, |a, _| Some(signed(a).is_negative().into())),
 ];
 
+// Quotient, remainder and steps of a division from the dividend's highest set bit.
+const DIVISION: [Operation; 3] = [
+    operation(0x07, Quotient, |a, b| a.checked_div(b)),
+    operation(0x08, Quotient, |a, b| a.checked_rem(b)),
+    operation(0x09, Quotient, |a, b| {
+        (b != 0).then(|| u128::from(128 - a.leading_zeros()))
+    }),
+];
+
 fn signed(a: u128) -> i128 {
     a as i128
 }
@@ -239,10 +248,13 @@ fn main() {
         output: String::new(),
         random: Random(SEED),
     };
-    for operation in WORD.iter().chain(&SIGNED) {
+    for operation in WORD.iter().chain(&SIGNED).chain(&DIVISION) {
         vectors.push_limits(operation);
         vectors.push_edges(operation);
         vectors.push_random(operation);
+    }
+    for operation in &DIVISION {
+        vectors.push_pairs(operation, &[7]);
     }
     fs::write(format!("{folder}/stdin"), vectors.input).expect("write stdin");
     fs::write(format!("{folder}/stdout"), vectors.output).expect("write stdout");
