@@ -21,7 +21,7 @@ use Rattle.graph.specs.Alias.{aliased, savedUpTo, saved, restoredUpTo, r
 use Rattle.graph.specs.WellFormed.{isGraph}
 use Rattle.graph.proofs.Grown.{Graph, graph-facts}
 use Rattle.graph.proofs.Kept.{inserted-kept}
-use Rattle.graph.specs.Clear.{cleared}
+use Rattle.graph.specs.Clear.{cleared, EmptyPast}
 use Rattle.graph.proofs.Wiping.{Cleared, cleared-facts, cleared-one}
 
 -- ---- lengths
@@ -85,6 +85,10 @@ restored-other zero s h i d = refl
 restored-other (suc n) s h i d =
     getD-set-other (restoredUpTo n s h) (nodeStart n + ALIAS) i (getD s n 0) 0 (λ e. d n (omega arith) e)
     ∙ restored-other n s h i (λ m l e. d m (omega arith) e)
+
+-- nothing is written past the nodes
+pub restored-past : (n c : ℕ) (s h : List ℕ) → n ≤ c → EmptyPast c h → EmptyPast c (restoredUpTo n s h)
+restored-past n c s h l e i p = restored-other n s h i (λ m q d. omega arith) ∙ e i p
 
 -- ---- nodes that stay but for their aliases
 

@@ -1,4 +1,4 @@
--- The loop of `clear_from`, and what it leaves: the words of the first n nodes, zeros past them, and n as the count.
+-- The loop of `clear_to`, and what it leaves: the words of the first n nodes, zeros past them, and n as the count.
 use Prim.Native.Nat.{ℕ, zero, suc, _+_, _-_, _≤_, _<_}
 use mathlib.Core.Path.{_≡_, refl, sym, ap, _∙_}
 use mathlib.Core.List.{List, _++_}
@@ -8,8 +8,8 @@ use borrow.Author.Needs.{read-below, read-above}
 use lib.ListN.{length, getD, set, take, replicate, length-set, length-append, length-replicate, getD-replicate, List·getD-append, List·getD-eq-default}
 use lib.Seq.{getD-set-same, getD-set-other, getD-take, getD-append-add, length-take-le, ext-getD}
 use Rattle.word.proofs.Integer.{lt-or-ge}
-use Rattle.graph.specs.Layout.{nodeStart, countOf}
-use Rattle.graph.specs.Clear.{cleared}
+use Rattle.graph.specs.Layout.{LIMIT, REGION, nodeStart, countOf}
+use Rattle.graph.specs.Clear.{cleared, EmptyPast}
 
 -- k is h with n nodes, word by word
 pub record Cleared (n : ℕ) (h k : List ℕ) : Type 0 where
@@ -80,6 +80,7 @@ pub record Wiping (n : ℕ) (h k : List ℕ) (i : ℕ) : Type 0 where
   pub upto : i ≤ length h
   pub kept : (j : ℕ) → j < nodeStart n → getD k j 0 ≡ getD h j 0
   pub empty : (j : ℕ) → nodeStart n ≤ j → j < i → getD k j 0 ≡ 0
+  pub rest : (j : ℕ) → i ≤ j → getD k j 0 ≡ getD h j 0
 
 -- one word more
 pub wiping-more : (n : ℕ) (h k : List ℕ) (i : ℕ) → Wiping n h k i → i < length h → Wiping n h (set k i 0) (i + 1)
@@ -89,17 +90,22 @@ wiping-more n h k i w l = record {
   upto = omega arith;
   kept = λ j p. read-below ℕ k i j 0 0 (getD h j 0) (let f = w .from in omega arith) (w .kept j p);
   empty = λ j p q. ⊎-elim (λ r. read-below ℕ k i j 0 0 0 r (w .empty j p r)) (λ r. here j q r) (lt-or-ge j i);
+  rest = λ j p. getD-set-other k i j 0 0 (λ e. omega arith) ∙ w .rest j (omega arith);
 }
   where
     here : (j : ℕ) → j < i + 1 → i ≤ j → getD (set k i 0) j 0 ≡ 0
     here j q r = let e : i ≡ j = omega arith in rw (← e) (getD-set-same k i 0 0 (let s = w .size in omega arith))
 
--- after the loop, which began with h after the count was set
-pub wiped : (n : ℕ) (h k : List ℕ) (i : ℕ) → nodeStart n ≤ length h → Wiping n (set h 0 n) k i → length k ≤ i → k ≡ cleared n h
-wiped n h k i fits w l =
+-- after the loop, which began with h after the count was set, and ended where only zeros follow
+pub wiped : (n : ℕ) (h k : List ℕ) (i : ℕ) → nodeStart n ≤ length h → Wiping n (set h 0 n) k i → ((j : ℕ) → i ≤ j → getD h j 0 ≡ 0) → k ≡ cleared n h
+wiped n h k i fits w zeros =
     cleared-one n h k fits (record {
       size = w .size ∙ length-set h 0 n;
       count = w .kept 0 (omega arith) ∙ getD-set-same h 0 n 0 (omega arith);
       kept = λ j p q. w .kept j q ∙ read-above ℕ h 0 j n 0 (getD h j 0) p refl;
-      empty = λ j p. ⊎-elim (λ r. w .empty j p r) (λ r. List·getD-eq-default k 0 (omega arith)) (lt-or-ge j i);
+      empty = λ j p. ⊎-elim (λ r. w .empty j p r) (λ r. w .rest j r ∙ getD-set-other h 0 j n 0 (λ e. omega arith) ∙ zeros j r) (lt-or-ge j i);
     })
+
+-- past the last node that there can be no word follows
+pub none-past : (h : List ℕ) → length h ≡ REGION → EmptyPast LIMIT h
+none-past h e i l = List·getD-eq-default h 0 (omega arith)

@@ -4,8 +4,9 @@ ghost use Prim.Native.Nat.{_≤_};
 ghost use lib.ListN.{length};
 ghost use Rattle.graph.specs.Layout.{REGION, LIMIT, countOf};
 ghost use Rattle.graph.specs.Alias.{aliased, saved, restoredUpTo, restored};
+ghost use Rattle.graph.specs.Clear.{EmptyPast};
 use crate::NodeId;
-use crate::clear::clear_from;
+use crate::clear::clear_to;
 use crate::layout::ALIAS;
 use crate::layout::FIRST;
 use crate::layout::LIMIT;
@@ -51,11 +52,20 @@ fn restore_aliases(g: &mut [u64], nodes: u64, words: &[u64])
     }
 }
 
-// Takes back what was added to the first `nodes` nodes, and the aliases that were set since they were saved.
+// Takes back what was added to the first `nodes` nodes, and the aliases that were set since they were saved. Every word past the first
+// `count` nodes is 0.
+pub fn restore_to(g: &mut [u64], nodes: u64, count: u64, words: &[u64])
+    requires { ⌜ (length (now g) ≡ REGION) × (length (now words) ≡ LIMIT) × (nodes ≤ count) × (count ≤ LIMIT) × EmptyPast count (now g) ⌝ }
+    ensures { λ _. ⌜ now (g .exit) ≡ restored nodes (now (words .entry)) (now (g .entry)) ⌝ }
+{
+    restore_aliases(g, nodes, words);
+    clear_to(g, nodes, count);
+}
+
+// The same whatever the words past the nodes are.
 pub fn restore(g: &mut [u64], nodes: u64, words: &[u64])
     requires { ⌜ (length (now g) ≡ REGION) × (length (now words) ≡ LIMIT) × (nodes ≤ LIMIT) ⌝ }
     ensures { λ _. ⌜ now (g .exit) ≡ restored nodes (now (words .entry)) (now (g .entry)) ⌝ }
 {
-    restore_aliases(g, nodes, words);
-    clear_from(g, nodes);
+    restore_to(g, nodes, LIMIT, words);
 }

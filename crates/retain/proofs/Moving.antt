@@ -3,7 +3,7 @@ use mathlib.Core.Path.{_≡_, refl, sym, ap, _∙_}
 use mathlib.Core.Bool.{Bool, true, false, cond}
 use mathlib.Core.List.{List, [], _∷_, _++_, append-assoc, append-nil}
 use mathlib.Core.Logic.{⊎-elim}
-use Prim.Native.Nat.{ℕ, zero, suc, _+_, _-_, _<_, _≤_}
+use Prim.Native.Nat.{ℕ, zero, suc, _+_, _-_, _/_, _%_, _<_, _≤_}
 use native.Mathlib.Numerals.{add-one}
 use native.Mathlib.Omega.{arith}
 use borrow.Author.Tests.{ne-eqb}
@@ -13,7 +13,7 @@ use lib.Seq.{take-all, take-paste, take-suc-set, getD-take, getD-at}
 use Rattle.word.proofs.Integer.{lt-or-ge}
 use Rattle.graph.specs.Layout.{OPERATION, X, Y, Z, WORDS, KEY, FIRST, REGION, LIMIT, nodeStart, wordAt, wordsFrom, countOf}
 use Rattle.graph.specs.Node.{PAST}
-use Rattle.graph.specs.Clear.{cleared}
+use Rattle.graph.specs.Clear.{cleared, EmptyPast}
 use Rattle.graph.proofs.Nodes.{stored-length, stored-other}
 use Rattle.retain.specs.Retain.{isKept, hasFirst, hasSecond, DROPPED, keptBelow, newId, newIds, through, movedWords, moved, keptNodes, retained}
 
@@ -201,6 +201,14 @@ module _ (g keep h mapping : List ℕ) (next n : ℕ) (v : Moving g keep h mappi
   moving-next k m p a b d = rw (a, b, d, add-one n) moving-on
 
 -- ---- after the loop
+
+-- past the nodes nothing was written
+pub moving-past : (g keep h mapping : List ℕ) (next n : ℕ) → Moving g keep h mapping next n → EmptyPast n g → EmptyPast n h
+moving-past g keep h mapping next n w z i l =
+    let m = (i - FIRST) / WORDS in
+    let k = (i - FIRST) % WORDS in
+    let d : i ≡ nodeStart m + k = omega arith in
+    ap (λ (j : ℕ). getD h j 0) d ∙ w .rest m k (omega arith) (omega arith) ∙ ap (λ (j : ℕ). getD g j 0) (sym d) ∙ z i l
 
 pub moving-ends : (g keep h mapping : List ℕ) (next n : ℕ) → Moving g keep h mapping next n → countOf g ≤ n
     → (next ≡ keptBelow keep (countOf g)) × (cleared next h ≡ retained g keep) × (mapping ≡ newIds keep (countOf g))

@@ -8,7 +8,7 @@ ghost use lib.ListN.{length, getD, set};
 ghost use Rattle.graph.specs.Layout.{REGION, LIMIT, countOf};
 ghost use Rattle.graph.specs.WellFormed.{isGraph};
 ghost use Rattle.retain.specs.Retain.{DROPPED, isKept, isKeepList, keptBelow, newIds, through, movedWords, moved, retained};
-use graph::clear::clear_from;
+use graph::clear::clear_to;
 use graph::insert::store;
 use graph::layout::FIRST;
 use graph::layout::OPERATION;
@@ -93,6 +93,6 @@ pub fn retain(g: &mut [u64], keep: &[u8], mapping: &mut [u64]) -> u64
         next = place(g, keep, mapping, node, next);
         node += 1;
     }
-    clear_from(g, next);
+    clear_to(g, next, nodes);
     next
 }

@@ -1,11 +1,11 @@
 -- The loop's invariant: the first nodes are done. The measure is what is left of the count.
-use mathlib.Core.Path.{sym, _∙_}
+use mathlib.Core.Path.{_≡_, sym, _∙_}
 use Prim.Native.Nat.{_-_, _<_}
 use native.Mathlib.Omega.{arith}
 use Rattle.graph.specs.Layout.{countOf}
 use Rattle.graph.proofs.Grown.{graph-facts}
 use Rattle.retain.proofs.Operands.{first-below, second-below, keep-list-facts}
-use Rattle.retain.proofs.Moving.{kept-le, Moving, moving-begins, moving-next, moving-ends}
+use Rattle.retain.proofs.Moving.{kept-le, Moving, moving-begins, moving-next, moving-past, moving-ends}
 use Rattle.retain.proofs.retain.Statement.{statement}
 use Rattle.retain.proofs.retain.Tie as tie
 
@@ -56,13 +56,19 @@ loop-again c =
     moving-next (a .g .now) (a .keep .now) (l .g) (l .mapping) (l .next) (l .node) (l .inv) more (f .count) (first-below f (l .node) more)
     (second-below f (l .node) more) _ _ _ (e .1) (e .2) (e .0)
 
-clear-from-requires : tie.Need-clear-from-requires Inv-loop μ-loop
-clear-from-requires c κs =
-    let a = c .before .before .before .before .before .before .before .before .args in
+clear-to-requires : tie.Need-clear-to-requires Inv-loop μ-loop
+clear-to-requires c κs =
+    let s = c .before .before .before .before .before .before .before .before in
+    let a = s .args in
     let l = c .before .before .loop in
-    let f = graph-facts (a .g .now) (c .before .before .before .before .before .before .before .before .pre .0) in
-    let k = keep-list-facts (a .g .now) (a .keep .now) (a .mapping .now) (c .before .before .before .before .before .before .before .before .pre .1) in
-    (l .inv .size, omega (arith, l .inv .kept, l .inv .upto, kept-le (a .keep .now) (l .node), f .count))
+    let f = graph-facts (a .g .now) (s .pre .0) in
+    let n = c .before .before .before .count .ensures in
+    let done : l .node ≡ countOf (a .g .now) = omega (arith, l .inv .upto) in (
+      l .inv .size,
+      omega (arith, l .inv .kept, l .inv .upto, kept-le (a .keep .now) (l .node)),
+      omega (arith, n, f .count),
+      λ i p. moving-past (a .g .now) (a .keep .now) (l .g) (l .mapping) (l .next) (l .node) (l .inv) (λ j q. f .rest j (omega (arith, done, q))) i (omega (arith, n, done, p)),
+    )
 
 same-length : tie.Need-same-length Inv-loop μ-loop
 same-length c =
@@ -78,7 +84,7 @@ returns c =
     let a = c .before .before .before .before .before .before .before .before .before .before .before .args in
     let l = c .before .before .before .before .before .loop in
     let e = moving-ends (a .g .now) (a .keep .now) (l .g) (l .mapping) (l .next) (l .node) (l .inv) (omega arith) in
-    (e .0, c .before .before .clear-from .ensures ∙ e .1, e .2)
+    (e .0, c .before .before .clear-to .ensures ∙ e .1, e .2)
 
 pub retain-spec : {M : Type 1} → statement M
 retain-spec =
@@ -92,7 +98,7 @@ retain-spec =
     add-node
     loop-less
     loop-again
-    clear-from-requires
+    clear-to-requires
     same-length
     same-length-2
     returns)

@@ -1,65 +1,19 @@
-use Prim.Native.Nat.{_-_}
-use mathlib.Core.Path.{refl, _∙_}
+-- `clear_from` meets its contract: past the last node that there can be no word follows. Assumes nothing.
+use native.Mathlib.Nat.{le-refl}
+use Rattle.graph.specs.Layout.{LIMIT}
+use Rattle.graph.proofs.Wiping.{none-past}
 use borrow.Author.Needs.{needs}
-use native.Mathlib.Omega.{arith}
-use lib.ListN.{length, length-set}
-use Rattle.graph.proofs.Wiping.{Wiping, wiping-more, wiped}
 use Rattle.graph.proofs.clear.clear_from.Statement.{statement}
 use Rattle.graph.proofs.clear.clear_from.Tie as tie
 
-abbrev Inv-loop : tie.InvT-loop
-Inv-loop g₀ nodes at₀ g at = Wiping nodes g₀ g at
+clear-to-requires : tie.Need-clear-to-requires
+clear-to-requires c κs = let p = c .before .before .pre in (p .0, p .1, le-refl LIMIT, none-past (c .before .before .args .g .now) (p .0))
 
-abbrev μ-loop : tie.MeasureT-loop
-μ-loop g₀ nodes at₀ g at = length g₀ - at
+same-length : tie.Need-same-length
+same-length c = search needs
 
-slice-write-g : tie.Need-slice-write-g Inv-loop μ-loop
-slice-write-g c = omega arith
-
-mul-at : tie.Need-mul-at Inv-loop μ-loop
-mul-at c = omega arith
-
-add-at : tie.Need-add-at Inv-loop μ-loop
-add-at c = omega arith
-
-loop-holds : tie.Need-loop-holds Inv-loop μ-loop
-loop-holds c = record { size = refl; from = search needs; upto = simp length-set (omega arith); kept = λ j p. refl; empty = λ j p q. omega arith }
-
-mul-g : tie.Need-mul-g Inv-loop μ-loop
-mul-g c = omega (arith, simp length-set at (c .before .loop .inv .size))
-
-slice-write-g-2 : tie.Need-slice-write-g-2 Inv-loop μ-loop
-slice-write-g-2 c = omega arith
-
-add-at-2 : tie.Need-add-at-2 Inv-loop μ-loop
-add-at-2 c = omega (arith, simp length-set at (c .before .loop .inv .size))
-
-loop-less : tie.Need-loop-less Inv-loop μ-loop
-loop-less c = omega arith
-
-loop-again : tie.Need-loop-again Inv-loop μ-loop
-loop-again c = wiping-more _ _ _ _ (c .before .loop .inv) (omega arith)
-
-same-length : tie.Need-same-length Inv-loop μ-loop
-same-length c = c .before .loop .inv .size ∙ simp length-set
-
-returns : tie.Need-returns Inv-loop μ-loop
-returns c = wiped _ _ _ _ (omega arith) (c .before .loop .inv) (c .loop-test .left)
+returns : tie.Need-returns
+returns c = search needs
 
 pub clear-from-spec : {M : Type 1} → statement M
-clear-from-spec =
-    tie.close
-    (tie.spec
-    Inv-loop
-    μ-loop
-    slice-write-g
-    mul-at
-    add-at
-    loop-holds
-    mul-g
-    slice-write-g-2
-    add-at-2
-    loop-less
-    loop-again
-    same-length
-    returns)
+clear-from-spec = tie.close (tie.spec clear-to-requires same-length returns)

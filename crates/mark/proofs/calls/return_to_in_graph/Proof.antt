@@ -3,7 +3,7 @@ use native.Mathlib.Omega.{arith}
 use borrow.Author.Tests.{lt-ltb, le-ltb}
 use Rattle.native.specs.Call as calls
 use Rattle.mark.specs.Mark.{returning, returnInGraph}
-use Rattle.mark.proofs.Facts.{regions-facts}
+use Rattle.mark.proofs.Facts.{marked-both, regions-facts}
 use Rattle.mark.proofs.calls.return_to_in_graph.Statement.{statement}
 use Rattle.mark.proofs.calls.return_to_in_graph.Tie as tie
 
@@ -12,8 +12,10 @@ standing-requires c κs = regions-facts _ _ (c .before .before .before .pre) .1 
 
 go-back-requires : tie.Need-go-back-requires
 go-back-requires c κs =
-    let f = regions-facts _ _ (c .before .before .before .before .before .before .before .pre) in
-    (f .0 .length, f .1 .length, omega (arith, c .before .before .before .standing .ensures, c .before .before .if1 .taken, f .1 .most), omega (arith, f .1 .first .fewer (c .before .before .before .before .before .before .before .args .mark .0) (omega (arith, c .before .before .before .standing .ensures, c .before .before .if1 .taken)), f .0 .count))
+    let s = c .before .before .before .before .before .before .before in
+    let f = regions-facts _ _ (s .pre) in
+    let stands = c .before .before .before .standing .ensures in
+    (marked-both (s .args .g .now) (s .args .m .now) (s .pre) .0, f .1 .length, omega (arith, stands, c .before .before .if1 .taken, f .1 .most), f .1 .first .fewer (s .args .mark .0) (omega (arith, stands, c .before .before .if1 .taken)))
 
 add-leave-standing : tie.Need-add-leave-standing
 add-leave-standing c = search needs

@@ -1,6 +1,9 @@
+-- `go_back` meets its contract: a graph has no word but 0 past its count. Assumes nothing.
 use native.Mathlib.Nat.{add-sub-cancel-left}
-use borrow.Author.Needs.{needs}
+use native.Mathlib.Omega.{arith}
+use Rattle.graph.proofs.Grown.{graph-facts}
 use Rattle.mark.specs.Mark.{returned}
+use borrow.Author.Needs.{needs}
 use Rattle.mark.proofs.moving.go_back.Statement.{statement}
 use Rattle.mark.proofs.moving.go_back.Tie as tie
 
@@ -22,27 +25,34 @@ add-from c = search needs
 add-to : tie.Need-add-to
 add-to c = search needs
 
-mul-restore : tie.Need-mul-restore
-mul-restore c = search needs
+count-requires : tie.Need-count-requires
+count-requires c κs = graph-facts _ (c .before .before .before .before .pre .0) .length
 
-sub-restore : tie.Need-sub-restore
-sub-restore c = search needs
+mul-restore-to : tie.Need-mul-restore-to
+mul-restore-to c = search needs
 
-part-restore-start : tie.Need-part-restore-start
-part-restore-start c = search needs
+sub-restore-to : tie.Need-sub-restore-to
+sub-restore-to c = search needs
 
-part-restore-end : tie.Need-part-restore-end
-part-restore-end c = search needs
+part-restore-to-start : tie.Need-part-restore-to-start
+part-restore-to-start c = search needs
 
-restore-requires : tie.Need-restore-requires
-restore-requires c κs = search needs
+part-restore-to-end : tie.Need-part-restore-to-end
+part-restore-to-end c = search needs
+
+restore-to-requires : tie.Need-restore-to-requires
+restore-to-requires c κs =
+    let s = c .before .before .before .before .before .before .before in
+    let f = graph-facts (s .args .g .now) (s .pre .0) in
+    let n = c .before .before .count .ensures in
+    (f .length, search needs, omega (arith, n, s .pre .3), omega (arith, n, f .count), λ i p. f .rest i (omega (arith, n, p)))
 
 same-length : tie.Need-same-length
 same-length c = search needs
 
 returns : tie.Need-returns
 unfolding returned
-returns c = rw add-sub-cancel-left at (c .before .before .restore .ensures)
+returns c = rw add-sub-cancel-left at (c .before .before .restore-to .ensures)
 
 pub go-back-spec : {M : Type 1} → statement M
 go-back-spec =
@@ -54,10 +64,11 @@ go-back-spec =
     shared-slice-read-nodes
     add-from
     add-to
-    mul-restore
-    sub-restore
-    part-restore-start
-    part-restore-end
-    restore-requires
+    count-requires
+    mul-restore-to
+    sub-restore-to
+    part-restore-to-start
+    part-restore-to-end
+    restore-to-requires
     same-length
     returns)
