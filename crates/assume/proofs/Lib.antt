@@ -3,3 +3,4 @@ pub mod Below
 pub mod Same
 pub mod Grows
 pub mod Steps
+pub mod Idle

@@ -1,3 +1,4 @@
 pub mod Limits
 pub mod Refine
 pub mod Assume
+pub mod Narrowing

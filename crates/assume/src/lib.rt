@@ -2,6 +2,7 @@
 pub mod base;
 pub mod guard_assumed;
 pub mod limit;
+pub mod narrowing;
 pub mod refine;
 
 use graph::NodeId;

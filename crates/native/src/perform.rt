@@ -15,6 +15,7 @@ use crate::direct;
 use answer::Refusal;
 use assume::Outcome;
 use assume::guard_assumed;
+use assume::narrowing::is_narrowing;
 use build::Budget;
 use build::range_test;
 use graph::Built;
@@ -53,11 +54,14 @@ pub(crate) fn settle(built: Built, full: Refusal) -> Answer
     }
 }
 
-// A condition is assumed; without room for a node its aliases and nodes are taken back.
+// A condition is assumed; without room for a node its aliases and nodes are taken back. Most guards narrow nothing, and need nothing saved.
 fn assume_or_restore(g: &mut [u64], condition: NodeId, expected: bool, full: Refusal) -> Answer
     requires { ⌜ isGraph (now g) ≡ true ⌝ }
     ensures { λ r. ⌜ called (answerOf r) (now (g .exit)) ≡ guardOut full (now (g .entry)) (assumedGuard (now (g .entry)) (condition .0) expected .outcome) (assumedGuard (now (g .entry)) (condition .0) expected .words) ⌝ }
 {
+    if !is_narrowing(g, condition, expected) {
+        return Answer::Done;
+    }
     let nodes = count(g);
     let mut aliases: [u64; NODES] = [0; NODES];
     save_aliases(g, &mut aliases);
