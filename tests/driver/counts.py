@@ -1,5 +1,5 @@
 #!/usr/bin/env python3
-"""Instructions of each builder's call on both sides, by callgrind, as a table.
+"""Instructions of each builder's call, of guards, retain and the slowest slices, on both sides, by callgrind, as a table.
 
     rt staticlib export
     cargo build --release --offline --manifest-path tests/driver/Cargo.toml
@@ -32,6 +32,13 @@ def main():
                 original, library = (count(driver, builder, nodes, node, side) for side in ["original", "library"])
                 cells += f" {original} | {library} | {library / original:.2f} |"
             print(f"| {builder} | {nodes} |{cells}", flush=True)
+    # A guard on a new node narrows one, on an old one nothing; a retain and a slow slice have no old node.
+    for nodes in ["16", "128", "500"]:
+        for name, node in [("guard", "new"), ("guard", "old"), ("retain", "new")]:
+            original, library = (count(driver, name, nodes, node, side) for side in ["original", "library"])
+            print(f"| {name}, {node} | {nodes} | {original} | {library} | {library / original:.2f} |", flush=True)
+    original, library = (count(driver, "slices of concats", "16", "new", side) for side in ["original", "library"])
+    print(f"| slices of concats | 190 | {original} | {library} | {library / original:.2f} |", flush=True)
 
 
 if __name__ == "__main__":

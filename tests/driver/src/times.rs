@@ -501,15 +501,41 @@ fn graphs(
     (leaves, full)
 }
 
-// Three calls of one builder on one side, on an old or a new node: a count of the instructions of `counted_work` or `counted_put` is theirs.
+// The calls before three calls of one kind, and these: a builder's, guards (new: each narrows a node), or the slowest slices.
+fn three(name: &str, nodes: usize, is_old: bool) -> Option<(Vec<Work>, Vec<Work>)> {
+    match name {
+        "guard" => {
+            let (before, guards) = guarded(nodes);
+            let known = [&before[..], &guards[..]].concat();
+            Some((if is_old { known } else { before }, guards))
+        }
+        "slices of concats" => {
+            let before = nested();
+            let last = before.len() - 1;
+            let cuts = SLOW.map(|(offset, width)| Work::Cut(last, offset, width));
+            Some((before, cuts.to_vec()))
+        }
+        _ => {
+            let (_, leaf, builder) = BUILDERS.iter().find(|(known, _, _)| *known == name)?;
+            let (leaves, full) = graphs(*leaf, *builder, nodes);
+            Some((
+                if is_old { full } else { leaves },
+                (0..3).map(*builder).collect(),
+            ))
+        }
+    }
+}
+
+// Three calls on one side, on an old or a new node: a count of the instructions of `counted_work` or `counted_put` is theirs.
 pub fn one(twin: &mut dyn Side, name: &str, nodes: usize, is_old: bool, is_original: bool) -> bool {
-    let Some((_, leaf, builder)) = BUILDERS.iter().find(|(known, _, _)| *known == name) else {
+    if name == "retain" {
+        three_retains(twin, nodes, is_original);
+        return true;
+    }
+    let Some((before, works)) = three(name, nodes, is_old) else {
         return false;
     };
-    let (leaves, full) = graphs(*leaf, *builder, nodes);
-    let before = if is_old { &full } else { &leaves };
-    let works: Vec<Work> = (0..3).map(*builder).collect();
-    let (mut graph, mut region) = after(before);
+    let (mut graph, mut region) = after(&before);
     if is_original {
         counted_work(&mut graph, &works);
     } else {
@@ -518,17 +544,56 @@ pub fn one(twin: &mut dyn Side, name: &str, nodes: usize, is_old: bool, is_origi
     true
 }
 
-// A retain on copies of a graph of leaves and sums of two, of which every other sum is dropped.
-fn retain_times(tiers: &mut Tiers, nodes: usize) -> [f64; 3] {
+// Leaves and sums of two, and which of them a retain keeps: every other sum is dropped.
+fn sums(nodes: usize) -> (Graph, Vec<u64>, Vec<u8>) {
     let leaves = (0..nodes / 2).map(Work::Leaf);
     let before: Vec<Work> = leaves
         .chain((0..nodes / 2 - 1).map(|id| Work::Binary(Pair::Add, id)))
         .collect();
     let (graph, region) = after(&before);
-    let count = graph.scalars.len();
-    let keep: Vec<u8> = (0..count)
+    let keep = (0..graph.scalars.len())
         .map(|id| (id < nodes / 2 || id % 2 == 0).into())
         .collect();
+    (graph, region, keep)
+}
+
+#[inline(never)]
+fn counted_work_retain(graphs: &mut [Graph], keep: &[bool]) {
+    for graph in graphs {
+        black_box(graph.retain(black_box(keep)));
+    }
+}
+
+#[inline(never)]
+fn counted_put_retain(
+    side: &mut dyn Side,
+    regions: &mut [Vec<u64>],
+    marks: &mut [u64],
+    keep: &[u8],
+    mapping: &mut [u64],
+) {
+    for region in regions {
+        black_box(side.retain(region, marks, black_box(keep), mapping));
+    }
+}
+
+fn three_retains(twin: &mut dyn Side, nodes: usize, is_original: bool) {
+    let (graph, region, keep) = sums(nodes);
+    let kept: Vec<bool> = keep.iter().map(|element| *element == 1).collect();
+    if is_original {
+        let mut graphs = vec![graph; 3];
+        counted_work_retain(&mut graphs, &kept);
+    } else {
+        let (mut marks, mut mapping) = (vec![0; MARKS], vec![0; keep.len()]);
+        let mut regions = vec![region; 3];
+        counted_put_retain(twin, &mut regions, &mut marks, &keep, &mut mapping);
+    }
+}
+
+// A retain on copies of a graph of leaves and sums of two, of which every other sum is dropped.
+fn retain_times(tiers: &mut Tiers, nodes: usize) -> [f64; 3] {
+    let (graph, region, keep) = sums(nodes);
+    let count = keep.len();
     let kept: Vec<bool> = keep.iter().map(|element| *element == 1).collect();
     let original = smallest(|| {
         let mut graphs = vec![graph.clone(); COPIES];
@@ -561,17 +626,22 @@ fn print_retains(tiers: &mut Tiers) {
     }
 }
 
+// A graph of so many nodes whose last are comparisons of leaves with a constant, and guards on these.
+fn guarded(nodes: usize) -> (Vec<Work>, Vec<Work>) {
+    let limit = nodes - 4;
+    let mut before: Vec<Work> = (0..limit).map(Work::Leaf).collect();
+    before.push(Work::Limit);
+    before.extend((0..3).map(|id| Work::IsBelow(id, limit)));
+    (before, (limit + 1..nodes).map(Work::Guard).collect())
+}
+
 // Guards on comparisons of leaves with a constant, each of which narrows one leaf by a new node, and the same guards
 // again, which narrow nothing.
 fn print_guards(tiers: &mut Tiers) {
     println!("| guard, nodes | narrows | original | in graph | asking |");
     println!("|---|---|---|---|---|");
     for nodes in BUILDER_NODES {
-        let limit = nodes - 4;
-        let mut before: Vec<Work> = (0..limit).map(Work::Leaf).collect();
-        before.push(Work::Limit);
-        before.extend((0..3).map(|id| Work::IsBelow(id, limit)));
-        let guards: Vec<Work> = (limit + 1..nodes).map(Work::Guard).collect();
+        let (before, guards) = guarded(nodes);
         let [original, twin, asking] = new_times(tiers, &before, &guards);
         println!("| {nodes} | one node | {original:.0} | {twin:.0} | {asking:.0} |");
         let known = [&before[..], &guards[..]].concat();
@@ -583,6 +653,8 @@ fn print_guards(tiers: &mut Tiers) {
 
 // The levels of the concats that the slow calls cut.
 const LEVELS: usize = 62;
+// The offsets and widths of the slow slices.
+const SLOW: [(u16, u16); 3] = [(0, 125), (1, 125), (63, 63)];
 
 // Inputs of two bits, each behind a mask of one, in a concat of concats.
 fn nested() -> Vec<Work> {
@@ -603,7 +675,7 @@ fn print_slow(tiers: &mut Tiers) {
     println!("|---|---|---|---|");
     let before = nested();
     let last = before.len() - 1;
-    for (offset, width) in [(0, 125), (1, 125), (63, 63)] {
+    for (offset, width) in SLOW {
         let [original, twin, asking] = new_times(tiers, &before, &[Work::Cut(last, offset, width)]);
         println!("| {width} bits from {offset} | {original:.0} | {twin:.0} | {asking:.0} |");
     }
