@@ -1,9 +1,9 @@
 -- `clear_to` meets its contract. The invariant: the words from the nodes on up to `at` are 0. The measure is what is left up to `end`. Assumes nothing.
-use Prim.Native.Nat.{_-_, _*_, _+_, _≤_}
-use mathlib.Core.Path.{_≡_, refl, _∙_}
+use Prim.Native.Nat.{_-_, _≤_}
+use mathlib.Core.Path.{refl, _∙_}
 use borrow.Author.Needs.{needs}
 use native.Mathlib.Omega.{arith}
-use lib.ListN.{length, length-set}
+use lib.ListN.{length-set}
 use Rattle.graph.proofs.Wiping.{Wiping, wiping-more, wiped}
 use Rattle.graph.proofs.clear.clear_to.Statement.{statement}
 use Rattle.graph.proofs.clear.clear_to.Tie as tie

@@ -1,7 +1,6 @@
 -- `Range::is_rising` meets its contract.
 use mathlib.Core.Path.{sym, _∙_}
 use borrow.Author.Needs.{needs}
-use borrow.Author.Tests.{not-true}
 use Rattle.range.proofs.Range.is_rising.Statement.{statement}
 use Rattle.range.proofs.Range.is_rising.Tie as tie
 
