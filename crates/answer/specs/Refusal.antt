@@ -15,4 +15,3 @@ refusal_number refusal.Room = 7
 refusal_number refusal.Units = 8
 refusal_number refusal.Marks = 9
 refusal_number refusal.Mark = 10
-refusal_number refusal.Guards = 11

@@ -17,8 +17,6 @@ pub enum Refusal {
     Marks,
     // The mark named does not stand.
     Mark,
-    // More than 32 guards in a list, or not one answer, 0 or 1, for each condition.
-    Guards,
 }
 
 impl Refusal {
@@ -36,7 +34,6 @@ impl Refusal {
             Refusal::Units => 8,
             Refusal::Marks => 9,
             Refusal::Mark => 10,
-            Refusal::Guards => 11,
         }
     }
 }

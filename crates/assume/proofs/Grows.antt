@@ -33,9 +33,8 @@ use Rattle.graph.proofs.Words.{Words, appended-words, aliased-words, node-words,
 use Rattle.fold.specs.Shape.{same_type}
 use Rattle.assume.specs.Limits.{Limits, or_end, meet, narrows}
 use Rattle.assume.specs.Refine.{Next, Outcome, unchanged, narrowed, full, Step, step, base_of, alias_to, narrow, refine_step}
-use Rattle.assume.specs.Assume.{Assumption, assumed_guard}
+use Rattle.assume.specs.Assume.{assumed_guard}
 use Rattle.assume.proofs.Below.{base_below, guard_below}
-use Rattle.assume.proofs.Said.{at_said}
 use Rattle.assume.proofs.Same.{assumed_keeps}
 
 -- ---- the range that a node is narrowed to
@@ -222,16 +221,15 @@ module _ (g : List ℕ) (e : is_graph g ≡ true) (w : Words g) where
 
   module _ (n : ℕ) (here : n < count_of g) (expected : Bool) where
     -- a guard
-    pub assumed-grows : Grows g (assumed_guard g n expected).words
+    assumed-grows : Grows g (assumed_guard g n expected).words
     assumed-grows =
         assumed_keeps (Grows g) (λ h m. m < count_of h) keep on g n expected (grows_self g e w)
-        (λ a q h p.
+        (λ c q h p.
         let f = graph_facts g e in
-        let (c, found, said) = at_said g n expected a q in
-        let b = guard_below f n expected c here found in
+        let b = guard_below f n expected c here q in
         let left = resolve-within f c.left (omega arith) in
         let right = resolve-within f c.right (omega arith) in
-        (subst (λ (x : Assumption). x.left < count_of h) said.is (omega (arith, p.more)), subst (λ (x : Assumption). x.right < count_of h) said.is (omega (arith, p.more))))
+        (omega (arith, p.more), omega (arith, p.more)))
 
     -- the region is still a graph
     pub assumed-graph : is_graph (assumed_guard g n expected).words ≡ true

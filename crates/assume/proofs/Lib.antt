@@ -1,5 +1,4 @@
 pub mod Laws
-pub mod Said
 pub mod Below
 pub mod Same
 pub mod Grows

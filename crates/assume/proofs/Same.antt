@@ -12,9 +12,10 @@ use Rattle.graph.specs.Node.{type_at, range_at}
 use Rattle.graph.specs.Insert as insert
 use Rattle.graph.specs.Insert.{Reply, resolve, inserted}
 use Rattle.graph.proofs.Restored.{Same, inserted_same, aliased_same}
-use Rattle.assume.specs.Limits.{Limits, limited_to, meet, narrows}
+use Rattle.guard.specs.Condition.{behind_nots, Comparison, comparison_at}
+use Rattle.assume.specs.Limits.{Limits, limited_to, meet, narrows, comparable, limits_by}
 use Rattle.assume.specs.Refine.{Next, Outcome, unchanged, narrowed, full, assumed, alias_to, narrow, step, refine_step, go_on, refine_up_to, refined}
-use Rattle.assume.specs.Assume.{Assumption, then_refined, refined_both, assumption_at, assumed_guard}
+use Rattle.assume.specs.Assume.{then_refined, refined_both, assumed_by, assumed_of, assumed_guard}
 
 -- ---- what each step keeps, all of them keep
 
@@ -40,29 +41,40 @@ module _ (P : List ℕ → Type 0) (N : List ℕ → ℕ → Type 0)
   unfolding refined
   refined_keeps so h n l p q = some-keep LIMIT so h n l p q
 
-  -- an assumption, if its two nodes stay what they are to be
-  both_keep : (g : List ℕ) (a : Assumption) → P g → ((h : List ℕ) → P h → N h a.left × N h a.right) → P (refined_both g a).words
-  unfolding refined_both
-  both_keep g a p t =
-      let r = refined_keeps unchanged g a.left a.limits.left p (t g p).0 in
-      then (refined unchanged g a.left a.limits.left).outcome _ _ _ r (t _ r).1
-    where
-      then : (o : Outcome) (h : List ℕ) (b : ℕ) (l : Limits) → P h → N h b → P (then_refined o h b l).words
-      then unchanged h b l r q = refined_keeps unchanged h b l r q
-      then narrowed h b l r q = refined_keeps narrowed h b l r q
-      then full h b l r q = r
-
-  -- a guard
+  -- a guard, if its two nodes stay what they are to be
   pub assumed_keeps : (g : List ℕ) (n : ℕ) (e : Bool) → P g
-      → ((a : Assumption) → assumption_at g n e ≡ some a → (h : List ℕ) → P h → N h a.left × N h a.right)
+      → ((c : Comparison) → comparison_at g (behind_nots g n e).node ≡ some c
+      → (h : List ℕ) → P h → N h (resolve g c.left) × N h (resolve g c.right))
       → P (assumed_guard g n e).words
-  unfolding assumed_guard
-  assumed_keeps g n e p q = by (assumption_at g n e) q
+  unfolding assumed_guard assumed_of refined_both
+  assumed_keeps g n e p q = by (comparison_at g (behind_nots g n e).node) q
     where
-      by : (x : Option Assumption) → ((a : Assumption) → x ≡ some a → (h : List ℕ) → P h → N h a.left × N h a.right)
-          → P (given x (refined_both g) (assumed unchanged g)).words
+      d : Bool
+      d = (behind_nots g n e).expected
+
+      then : (o : Outcome) (h : List ℕ) (b : ℕ) (l : Limits) → P h → N h b → P (then_refined o h b l).words
+      then unchanged h b l r t = refined_keeps unchanged h b l r t
+      then narrowed h b l r t = refined_keeps narrowed h b l r t
+      then full h b l r t = r
+
+      both : (c : Comparison) → ((h : List ℕ) → P h → N h (resolve g c.left) × N h (resolve g c.right)) → (x y : Option Interval)
+          → P (assumed_by g d c.op (resolve g c.left) (resolve g c.right) x y).words
+      both c t none y = p
+      both c t (some x) none = p
+      both c t (some x) (some y) = test (comparable c.op x y)
+        where
+          test : (z : Bool)
+              → P (cond z (refined_both g (resolve g c.left) (resolve g c.right) (limits_by c.op d x y)) (assumed unchanged g)).words
+          test true =
+              let r = refined_keeps unchanged g (resolve g c.left) (limits_by c.op d x y).left p (t g p).0 in
+              then (refined unchanged g (resolve g c.left) (limits_by c.op d x y).left).outcome _ _ _ r (t _ r).1
+          test false = p
+
+      by : (x : Option Comparison)
+          → ((c : Comparison) → x ≡ some c → (h : List ℕ) → P h → N h (resolve g c.left) × N h (resolve g c.right))
+          → P (given x (assumed_of g d) (assumed unchanged g)).words
       by none t = p
-      by (some a) t = both_keep g a p (t a refl)
+      by (some c) t = both c (t c refl) (range_at g (resolve g c.left)) (range_at g (resolve g c.right))
 
 -- ---- the keys
 
@@ -93,12 +105,8 @@ module _ {k : ℕ} {g h : List ℕ} (s : Same k g h) where
 abbrev Any : List ℕ → ℕ → Type 0
 Any h n = Unit {0}
 
-module _ {k : ℕ} {g h : List ℕ} (s : Same k g h) where
-  -- an assumption keeps them
-  pub both_same : (a : Assumption) → Same k g (refined_both h a).words
-  both_same a = both_keep (Same k g) Any (λ w m j p q. step_same p (resolve w m) j) (λ w m j p q x z. tt) h a s (λ w p. (tt, tt))
-
+module _ {k : ℕ} {g : List ℕ} where
   -- a guard keeps them
-  pub assumed_same : (n : ℕ) (e : Bool) → Same k g (assumed_guard h n e).words
-  assumed_same n e =
+  pub assumed_same : {h : List ℕ} → Same k g h → (n : ℕ) (e : Bool) → Same k g (assumed_guard h n e).words
+  assumed_same {h} s n e =
       assumed_keeps (Same k g) Any (λ w m j p q. step_same p (resolve w m) j) (λ w m j p q x z. tt) h n e s (λ c z w p. (tt, tt))

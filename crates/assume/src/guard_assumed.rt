@@ -1,13 +1,21 @@
-// An assumption made (assume.rs 83 to 151): both operands refined.
+// A guard assumed (assume.rs 83 to 151).
 ghost use Rattle.std.specs.Prelude.{◌≡◌, length};
+ghost use Rattle.range.specs.Interval.{interval_of};
 ghost use Rattle.graph.specs.Layout.{REGION};
-ghost use Rattle.assume.specs.Limits.{limits_of};
+ghost use Rattle.guard.specs.Condition.{one_comparison_of};
+ghost use Rattle.assume.specs.Limits.{limits_of, pair_of};
 ghost use Rattle.assume.specs.Refine.{outcome_of, assumed};
-ghost use Rattle.assume.specs.Assume.{one_assumption_of, then_refined, refined_both};
+ghost use Rattle.assume.specs.Assume.{then_refined, refined_both, assumed_by, assumed_of, assumed_guard};
 
+use crate::limit::{comparable, limits_by};
 use crate::refine::refine;
-use crate::{Assumption, Limits, Outcome};
+use crate::{Limits, Outcome, Pair};
+use evaluate::Binary;
 use graph::NodeId;
+use graph::read::{range_at, resolve};
+use guard::reading::{behind_nots, comparison_at};
+use guard::{Comparison, MaybeComparison};
+use range::MaybeRange;
 
 // The second node, unless the first had no room.
 fn then_refine(g: &mut [u64], first: Outcome, node: NodeId, limits: Limits) -> Outcome
@@ -21,13 +29,65 @@ fn then_refine(g: &mut [u64], first: Outcome, node: NodeId, limits: Limits) -> O
     }
 }
 
-pub fn refine_both(g: &mut [u64], assumption: Assumption) -> Outcome
+fn refine_both(g: &mut [u64], a: NodeId, b: NodeId, limits: Pair) -> Outcome
     requires { length g.old ≡ REGION }
-    ensures { assumed (outcome_of result) g.new ≡ refined_both g.old (one_assumption_of assumption) }
+    ensures { assumed (outcome_of result) g.new ≡ refined_both g.old a.0 b.0 (pair_of limits) }
 {
-    let limits = assumption.limits;
     let left = limits.left;
     let right = limits.right;
-    let first = refine(g, Outcome::Unchanged, assumption.left, left);
-    then_refine(g, first, assumption.right, right)
+    let first = refine(g, Outcome::Unchanged, a, left);
+    then_refine(g, first, b, right)
+}
+
+// By the ranges that both operands have before the first of them is refined.
+fn assume_by(
+    g: &mut [u64],
+    expected: bool,
+    op: Binary,
+    a: NodeId,
+    b: NodeId,
+    left: MaybeRange,
+    right: MaybeRange,
+) -> Outcome
+    requires { length g.old ≡ REGION }
+    ensures { assumed (outcome_of result) g.new ≡ assumed_by g.old expected op a.0 b.0 (interval_of left) (interval_of right) }
+{
+    let MaybeRange::Some(x) = left else {
+        return Outcome::Unchanged;
+    };
+    let MaybeRange::Some(y) = right else {
+        return Outcome::Unchanged;
+    };
+    if comparable(op, x, y) {
+        refine_both(g, a, b, limits_by(op, expected, x, y))
+    } else {
+        Outcome::Unchanged
+    }
+}
+
+// A comparison of two nodes, which are resolved.
+fn assume_comparison(g: &mut [u64], expected: bool, comparison: Comparison) -> Outcome
+    requires { length g.old ≡ REGION }
+    ensures { assumed (outcome_of result) g.new ≡ assumed_of g.old expected (one_comparison_of comparison) }
+{
+    let a = resolve(g, comparison.left);
+    let b = resolve(g, comparison.right);
+    let left = range_at(g, a);
+    let right = range_at(g, b);
+    let op = comparison.op;
+    assume_by(g, expected, op, a, b, left, right)
+}
+
+// A condition, which is not resolved.
+pub fn assume_guard(g: &mut [u64], condition: NodeId, expected: bool) -> Outcome
+    requires { length g.old ≡ REGION }
+    ensures { assumed (outcome_of result) g.new ≡ assumed_guard g.old condition.0 expected }
+{
+    let behind = behind_nots(g, condition, expected);
+    let node = behind.node;
+    let found = comparison_at(g, node);
+    match found {
+        MaybeComparison::Some(comparison) => assume_comparison(g, behind.expected, comparison),
+        MaybeComparison::None => Outcome::Unchanged,
+    }
 }

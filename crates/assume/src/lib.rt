@@ -1,6 +1,5 @@
 // Assuming a guard (assume.rs): nodes that it narrows get an alias, a Refine with the narrower range.
 pub mod base;
-pub mod condition;
 pub mod guard_assumed;
 pub mod limit;
 pub mod narrowing;
@@ -22,20 +21,6 @@ pub struct Limits {
 pub struct Pair {
     pub left: Limits,
     pub right: Limits,
-}
-
-// What a condition says of two nodes: the limits of each.
-#[derive(Drop)]
-pub struct Assumption {
-    pub left: NodeId,
-    pub right: NodeId,
-    pub limits: Pair,
-}
-
-#[derive(Drop)]
-pub enum MaybeAssumption {
-    Some(Assumption),
-    None,
 }
 
 // Nothing is written, nodes are narrowed, or there is no room for a node.

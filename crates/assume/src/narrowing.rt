@@ -1,14 +1,18 @@
-// Would an assumption narrow a node? Where it would not, it writes nothing.
+// Would a guard narrow a node? Where it would not, it writes nothing.
 ghost use Rattle.std.specs.Prelude.{◌≡◌, length};
+ghost use Rattle.range.specs.Interval.{interval_of};
 ghost use Rattle.graph.specs.Layout.{REGION};
-ghost use Rattle.assume.specs.Limits.{limits_of};
-ghost use Rattle.assume.specs.Assume.{one_assumption_of};
-ghost use Rattle.assume.specs.Narrowing.{narrows_at, is_narrowing};
+ghost use Rattle.guard.specs.Condition.{one_comparison_of};
+ghost use Rattle.assume.specs.Limits.{limits_of, pair_of};
+ghost use Rattle.assume.specs.Narrowing.{narrows_at, narrows_either, narrows_by, narrows_of, is_narrowing};
 
-use crate::limit::{meet, narrows};
-use crate::{Assumption, Limits};
+use crate::limit::{comparable, limits_by, meet, narrows};
+use crate::{Limits, Pair};
+use evaluate::Binary;
 use graph::NodeId;
 use graph::read::{range_at, resolve, type_at};
+use guard::reading::{behind_nots, comparison_at};
+use guard::{Comparison, MaybeComparison};
 use range::MaybeRange;
 
 // Do limits narrow the node that this one is by now?
@@ -24,17 +28,68 @@ fn narrows_at(g: &[u64], node: NodeId, limits: Limits) -> bool
     narrows(type_at(g, target), old, meet(old, limits))
 }
 
-// The left operand or the right one.
-pub fn is_narrowing(g: &[u64], assumption: Assumption) -> bool
+fn narrows_either(g: &[u64], a: NodeId, b: NodeId, limits: Pair) -> bool
     requires { length g.now ≡ REGION }
-    ensures { result ≡ is_narrowing g.now (one_assumption_of assumption) }
+    ensures { result ≡ narrows_either g.now a.0 b.0 (pair_of limits) }
 {
-    let limits = assumption.limits;
     let left = limits.left;
     let right = limits.right;
-    if narrows_at(g, assumption.left, left) {
+    if narrows_at(g, a, left) {
         true
     } else {
-        narrows_at(g, assumption.right, right)
+        narrows_at(g, b, right)
+    }
+}
+
+// By the ranges of both operands.
+fn narrows_by(
+    g: &[u64],
+    expected: bool,
+    op: Binary,
+    a: NodeId,
+    b: NodeId,
+    left: MaybeRange,
+    right: MaybeRange,
+) -> bool
+    requires { length g.now ≡ REGION }
+    ensures { result ≡ narrows_by g.now expected op a.0 b.0 (interval_of left) (interval_of right) }
+{
+    let MaybeRange::Some(x) = left else {
+        return false;
+    };
+    let MaybeRange::Some(y) = right else {
+        return false;
+    };
+    if comparable(op, x, y) {
+        narrows_either(g, a, b, limits_by(op, expected, x, y))
+    } else {
+        false
+    }
+}
+
+// A comparison of two nodes, which are resolved.
+fn narrows_comparison(g: &[u64], expected: bool, comparison: Comparison) -> bool
+    requires { length g.now ≡ REGION }
+    ensures { result ≡ narrows_of g.now expected (one_comparison_of comparison) }
+{
+    let a = resolve(g, comparison.left);
+    let b = resolve(g, comparison.right);
+    let left = range_at(g, a);
+    let right = range_at(g, b);
+    let op = comparison.op;
+    narrows_by(g, expected, op, a, b, left, right)
+}
+
+// A condition, which is not resolved.
+pub fn is_narrowing(g: &[u64], condition: NodeId, expected: bool) -> bool
+    requires { length g.now ≡ REGION }
+    ensures { result ≡ is_narrowing g.now condition.0 expected }
+{
+    let behind = behind_nots(g, condition, expected);
+    let node = behind.node;
+    let found = comparison_at(g, node);
+    match found {
+        MaybeComparison::Some(comparison) => narrows_comparison(g, behind.expected, comparison),
+        MaybeComparison::None => false,
     }
 }

@@ -1,6 +1,5 @@
 // The calls for C and Rust: numbers and slices alone.
 pub mod calls;
-pub mod guards;
 pub mod marks;
 pub mod reading;
 pub mod requests;

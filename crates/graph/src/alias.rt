@@ -24,7 +24,7 @@ pub fn set_alias(g: &mut [u64], from: NodeId, to: NodeId)
 
 // The alias words of all nodes, into the first elements of `words`.
 pub fn save_aliases(g: &[u64], words: &mut [u64])
-    requires { (length g.now ≡ REGION) × (count_of g.now ≤ length words.old) × (count_of g.now ≤ LIMIT) }
+    requires { (length g.now ≡ REGION) × (length words.old ≡ LIMIT) × (count_of g.now ≤ LIMIT) }
     ensures { words.new ≡ saved g.now words.old }
 {
     let nodes = count(g);
@@ -37,7 +37,7 @@ pub fn save_aliases(g: &[u64], words: &mut [u64])
 
 // The first `nodes` nodes get their alias words back.
 fn restore_aliases(g: &mut [u64], nodes: u64, words: &[u64])
-    requires { (length g.old ≡ REGION) × (nodes ≤ length words.now) × (nodes ≤ LIMIT) }
+    requires { (length g.old ≡ REGION) × (length words.now ≡ LIMIT) × (nodes ≤ LIMIT) }
     ensures { g.new ≡ restored_up_to nodes words.now g.old }
 {
     let mut n: u64 = 0;
@@ -50,7 +50,7 @@ fn restore_aliases(g: &mut [u64], nodes: u64, words: &[u64])
 // Takes back what was added to the first `nodes` nodes, and the aliases that were set since they were saved. Every word past the first
 // `count` nodes is 0.
 pub fn restore_to(g: &mut [u64], nodes: u64, count: u64, words: &[u64])
-    requires { (length g.old ≡ REGION) × (nodes ≤ length words.now) × (nodes ≤ count) × (count ≤ LIMIT) × EmptyPast count g.old }
+    requires { (length g.old ≡ REGION) × (length words.now ≡ LIMIT) × (nodes ≤ count) × (count ≤ LIMIT) × EmptyPast count g.old }
     ensures { g.new ≡ restored nodes words.now g.old }
 {
     restore_aliases(g, nodes, words);
@@ -59,7 +59,7 @@ pub fn restore_to(g: &mut [u64], nodes: u64, count: u64, words: &[u64])
 
 // The same whatever the words past the nodes are.
 pub fn restore(g: &mut [u64], nodes: u64, words: &[u64])
-    requires { (length g.old ≡ REGION) × (nodes ≤ length words.now) × (nodes ≤ LIMIT) }
+    requires { (length g.old ≡ REGION) × (length words.now ≡ LIMIT) × (nodes ≤ LIMIT) }
     ensures { g.new ≡ restored nodes words.now g.old }
 {
     restore_to(g, nodes, LIMIT, words);

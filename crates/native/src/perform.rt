@@ -1,19 +1,17 @@
 // A request performed: the questions in their order, the work, and what a refusal takes back.
 ghost use Rattle.std.specs.Prelude.{true, ◌≡◌, length, ◌≤◌};
 ghost use Rattle.graph.specs.Insert.{built_of};
-ghost use Rattle.graph.specs.Layout.{REGION, LIMIT, count_of};
+ghost use Rattle.graph.specs.Layout.{REGION, LIMIT};
 ghost use Rattle.graph.specs.WellFormed.{is_graph};
-ghost use Rattle.assume.specs.Assume.{one_assumption_of, refined_both, assumed_guard};
+ghost use Rattle.assume.specs.Assume.{assumed_guard};
 ghost use Rattle.native.specs.Call.{answer_of, called, is_refused};
 ghost use Rattle.request.specs.Request.{request_of};
 ghost use Rattle.native.specs.Perform.{UNITS, settled, guard_out, worked, performed, left, request_in_graph, request_call};
 
 use crate::{Answer, direct};
 use answer::Refusal;
-use assume::condition::assumption_at;
-use assume::guard_assumed::refine_both;
 use assume::narrowing::is_narrowing;
-use assume::{Assumption, MaybeAssumption, Outcome};
+use assume::{Outcome, guard_assumed};
 use build::{Budget, range_test};
 use graph::alias::{restore, save_aliases};
 use graph::clear::clear_from;
@@ -25,9 +23,6 @@ use request::questions::{are_ids, are_widths, is_declarable, is_typed};
 
 // The units of a call.
 pub const UNITS: u64 = 1024;
-
-// So many alias words are saved in a small place.
-const FEW: usize = 128;
 
 pub(crate) fn full_budget() -> Budget
     ensures { result.units ≡ UNITS }
@@ -47,56 +42,25 @@ pub(crate) fn settle(built: Built, full: Refusal) -> Answer
     }
 }
 
-// Both operands are refined; without room for a node the aliases that were set, which are saved first, and the nodes are taken back.
-fn refine_or_restore(
-    g: &mut [u64],
-    assumption: Assumption,
-    full: Refusal,
-    aliases: &mut [u64],
-) -> Answer
-    requires { (is_graph g.old ≡ true) × (count_of g.old ≤ length aliases.old) }
-    ensures { called (answer_of result) g.new ≡ guard_out full g.old (refined_both g.old (one_assumption_of assumption)).outcome (refined_both g.old (one_assumption_of assumption)).words }
-{
-    let nodes = count(g);
-    save_aliases(g, aliases);
-    let outcome = refine_both(g, assumption);
-    match outcome {
-        Outcome::Unchanged => Answer::Done,
-        Outcome::Narrowed => Answer::Done,
-        Outcome::Full => {
-            restore(g, nodes, aliases);
-            Answer::Refused(full)
-        }
-    }
-}
-
-// With a place for as many alias words as there are nodes: clearing it takes time.
-fn refine_with_place(g: &mut [u64], assumption: Assumption, full: Refusal) -> Answer
-    requires { is_graph g.old ≡ true }
-    ensures { called (answer_of result) g.new ≡ guard_out full g.old (refined_both g.old (one_assumption_of assumption)).outcome (refined_both g.old (one_assumption_of assumption)).words }
-{
-    if count(g) <= FEW as u64 {
-        let mut few: [u64; FEW] = [0; FEW];
-        refine_or_restore(g, assumption, full, &mut few)
-    } else {
-        let mut all: [u64; NODES] = [0; NODES];
-        refine_or_restore(g, assumption, full, &mut all)
-    }
-}
-
-// A condition is assumed. Most guards narrow nothing, and need nothing saved.
+// A condition is assumed; without room for a node its aliases and nodes are taken back. Most guards narrow nothing, and need nothing saved.
 fn assume_or_restore(g: &mut [u64], condition: NodeId, expected: bool, full: Refusal) -> Answer
     requires { is_graph g.old ≡ true }
     ensures { called (answer_of result) g.new ≡ guard_out full g.old (assumed_guard g.old condition.0 expected).outcome (assumed_guard g.old condition.0 expected).words }
 {
-    let found = assumption_at(g, condition, expected);
-    let MaybeAssumption::Some(assumption) = found else {
+    if !is_narrowing(g, condition, expected) {
         return Answer::Done;
-    };
-    if is_narrowing(g, assumption) {
-        refine_with_place(g, assumption, full)
-    } else {
-        Answer::Done
+    }
+    let nodes = count(g);
+    let mut aliases: [u64; NODES] = [0; NODES];
+    save_aliases(g, &mut aliases);
+    let outcome = guard_assumed::assume_guard(g, condition, expected);
+    match outcome {
+        Outcome::Unchanged => Answer::Done,
+        Outcome::Narrowed => Answer::Done,
+        Outcome::Full => {
+            restore(g, nodes, &aliases);
+            Answer::Refused(full)
+        }
     }
 }
 
