@@ -1,9 +1,11 @@
 // The refusals that calls answer with.
+#![tactic(auto)]
+
 ghost use Rattle.std.specs.Prelude.{◌≡◌};
 ghost use Rattle.answer.specs.Refusal.{refusal_number};
 
 // What a no to each question refuses, by the questions' numbers.
-#[derive(Drop)]
+#[derive(Clone, Copy)]
 pub enum Refusal {
     Graph,
     Width,

@@ -1,4 +1,6 @@
 // Assuming a guard (assume.rs): nodes that it narrows get an alias, a Refine with the narrower range.
+#![tactic(auto)]
+
 pub mod base;
 pub mod guard_assumed;
 pub mod limit;
@@ -10,21 +12,21 @@ use range::Range;
 use word::MaybeSigned;
 
 // The least and the largest value, each if there is one.
-#[derive(Drop)]
+#[derive(Clone, Copy)]
 pub struct Limits {
     pub lower: MaybeSigned,
     pub upper: MaybeSigned,
 }
 
 // The limits of the left and of the right operand.
-#[derive(Drop)]
+#[derive(Clone, Copy)]
 pub struct Pair {
     pub left: Limits,
     pub right: Limits,
 }
 
 // Nothing is written, nodes are narrowed, or there is no room for a node.
-#[derive(Drop)]
+#[derive(Clone, Copy)]
 pub enum Outcome {
     Unchanged,
     Narrowed,
@@ -32,20 +34,20 @@ pub enum Outcome {
 }
 
 // A node, and the range to which it is refined next.
-#[derive(Drop)]
+#[derive(Clone, Copy)]
 pub struct Next {
     pub node: NodeId,
     pub range: Range,
 }
 
-#[derive(Drop)]
+#[derive(Clone, Copy)]
 pub enum MaybeNext {
     Some(Next),
     None,
 }
 
 // What one refinement did, and the node that follows.
-#[derive(Drop)]
+#[derive(Clone, Copy)]
 pub struct Step {
     pub outcome: Outcome,
     pub next: MaybeNext,

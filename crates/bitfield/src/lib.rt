@@ -1,4 +1,6 @@
 // Single bits of nodes, and the two folds of bitfield.rs: concats of one node's own bits and of constants, and masked comparisons. Nothing here writes.
+#![tactic(auto)]
+
 pub mod bits;
 pub mod equality;
 pub mod fields;
@@ -10,7 +12,7 @@ use range::ScalarType;
 use word::Word;
 
 // And of the base and a mask, then an operation on that and a literal; mask and literal are constants of the base's type.
-#[derive(Drop)]
+#[derive(Clone, Copy)]
 pub struct Masked {
     pub ty: ScalarType,
     pub base: NodeId,
@@ -20,27 +22,27 @@ pub struct Masked {
     pub literal: Word,
 }
 
-#[derive(Drop)]
+#[derive(Clone, Copy)]
 pub enum MaybeMasked {
     Some(Masked),
     None,
 }
 
 // A bit that is known, or a bit of a node.
-#[derive(Drop)]
+#[derive(Clone, Copy)]
 pub enum Bit {
     Known(bool),
     Source(NodeId, u64),
 }
 
-#[derive(Drop)]
+#[derive(Clone, Copy)]
 pub enum MaybeBit {
     Some(Bit),
     None,
 }
 
 // Where a bit of a node comes from: this one, a bit of an operand, or that bit turned over.
-#[derive(Drop)]
+#[derive(Clone, Copy)]
 pub enum BitStep {
     Here(Bit),
     From(NodeId, u64),
@@ -48,7 +50,7 @@ pub enum BitStep {
 }
 
 // How often a bit was turned over on the way.
-#[derive(Drop)]
+#[derive(Clone, Copy)]
 pub enum Turns {
     Never,
     Odd,
@@ -56,34 +58,34 @@ pub enum Turns {
 }
 
 // The bits of a concat so far: the node that some come from, the mask of those, and the ones among the others.
-#[derive(Drop)]
+#[derive(Clone, Copy)]
 pub struct Field {
     pub base: MaybeId,
     pub keep: Word,
     pub literal: Word,
 }
 
-#[derive(Drop)]
+#[derive(Clone, Copy)]
 pub enum MaybeField {
     Some(Field),
     None,
 }
 
 // What an update of a base keeps of it, and the literal that it sets.
-#[derive(Drop)]
+#[derive(Clone, Copy)]
 pub struct Update {
     pub preserved: NodeId,
     pub literal: Word,
 }
 
-#[derive(Drop)]
+#[derive(Clone, Copy)]
 pub enum MaybeUpdate {
     Some(Update),
     None,
 }
 
 // One pair of base and update: the other pair is next, the fold ends, or it is found.
-#[derive(Drop)]
+#[derive(Clone, Copy)]
 pub enum PairFold {
     Next,
     End,

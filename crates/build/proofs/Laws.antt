@@ -3,9 +3,6 @@ use Prim.Native.Nat.{ℕ, zero, suc, ◌-◌, ◌<◌, ◌≤◌, zero-le}
 use mathlib.Core.Path.{◌≡◌, refl, sym, ap, ◌∙◌}
 use mathlib.Core.Bool.{Bool, true, false, true≢false}
 use mathlib.Core.List.{List, [], ◌∷◌}
-use mathlib.Core.Logic.{⊎_elim}
-use types.Run.{OneOf}
-use denote.Enum.Declared.{tag_of}
 use native.Mathlib.Nat.{le_refl, le_trans}
 use native.Mathlib.Numerals.{sub-one}
 use native.Mathlib.Omega.{arith}
@@ -19,7 +16,7 @@ use Rattle.graph.specs.Node as node
 use Rattle.graph.specs.Insert.{Reply, id, nothing, room, units, built_of, inserted, constant, constant_interval}
 use Rattle.graph.specs.declared.Built.{Built}
 use Rattle.graph.specs.declared.Built.TheVariants as built
-use Rattle.graph.specs.contracts.Built.{the_type}
+use Rattle.graph.specs.declared.NodeId.{NodeId}
 use Rattle.build.specs.declared.step.MaskedNode.{MaskedNode}
 use Rattle.build.specs.Step.{masked_prog}
 use Rattle.plan.specs.Plan.{is_stop}
@@ -193,19 +190,19 @@ pub try_stop : (v w u : ℕ) (k : List ℕ → Prog) (g : List ℕ) → (u ≡ 0
     → exec build (tries (tail (modular v w)) k) u g ≡ exec build (k g) (u - 1) g
 try_stop v w u k g e s = rw (build_step (modular v w) u g e, is_stop_lem (modular_plan g v w) s)
 
--- ---- what an answer's tag tells
+-- ---- what an answer is not
 
 -- an answer that is no id ends a program: what the `else` of `let Built::Id(..) = .. else` knows
-pub on_id-stop : (b : Built) (u : ℕ) (g : List ℕ) (k : ℕ → ℕ → List ℕ → Out) → OneOf (1 ∷ 2 ∷ 3 ∷ []) (tag_of the_type b) → on_id (built_of b) u g k ≡ out (built_of b) u g
-on_id-stop (built.Id n) u g k h = absurd (⊎_elim (λ e. omega arith) (λ q. ⊎_elim (λ e. omega arith) (λ e. omega arith) q) h)
+pub on_id-stop : (b : Built) (u : ℕ) (g : List ℕ) (k : ℕ → ℕ → List ℕ → Out) → ((x : NodeId) → b ≡ built.Id x → ⊥) → on_id (built_of b) u g k ≡ out (built_of b) u g
+on_id-stop (built.Id x) u g k h = absurd (h x refl)
 on_id-stop built.None u g k h = refl
 on_id-stop built.Room u g k h = refl
 on_id-stop built.Units u g k h = refl
 
 -- the same of one that is tried, where an answer that is not None ends it
-pub on_nothing-stop : (b : Built) (u : ℕ) (g : List ℕ) (k : ℕ → List ℕ → Out) → OneOf (0 ∷ 2 ∷ 3 ∷ []) (tag_of the_type b) → on_nothing (built_of b) u g k ≡ out (built_of b) u g
-on_nothing-stop (built.Id n) u g k h = refl
-on_nothing-stop built.None u g k h = absurd (⊎_elim (λ e. omega arith) (λ q. ⊎_elim (λ e. omega arith) (λ e. omega arith) q) h)
+pub on_nothing-stop : (b : Built) (u : ℕ) (g : List ℕ) (k : ℕ → List ℕ → Out) → (b ≡ built.None → ⊥) → on_nothing (built_of b) u g k ≡ out (built_of b) u g
+on_nothing-stop (built.Id x) u g k h = refl
+on_nothing-stop built.None u g k h = absurd (h refl)
 on_nothing-stop built.Room u g k h = refl
 on_nothing-stop built.Units u g k h = refl
 

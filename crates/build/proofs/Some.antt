@@ -3,9 +3,6 @@ use Prim.Native.Nat.{ℕ, zero, suc, ◌+◌, ◌-◌}
 use mathlib.Core.Path.{◌≡◌, refl, ap, ◌∙◌}
 use mathlib.Core.Bool.{Bool, true, false, cond, false≢true, ◌&&◌, ◌||◌}
 use mathlib.Core.List.{List, [], ◌∷◌}
-use mathlib.Core.Logic.{⊎_elim}
-use types.Run.{OneOf}
-use denote.Enum.Declared.{tag_of}
 use native.Mathlib.Omega.{arith}
 use mathlib.Core.Option.{Option, none, some}
 use lib.Dec.{eqb, ltb, leb}
@@ -24,7 +21,7 @@ use Rattle.graph.specs.Node.{Op, words_of, type_at, range_at, operation_at}
 use Rattle.graph.specs.Insert.{Reply, id, nothing, room, units, Made, literal, built_of, resolve, interned, appended, found_or, inserted, constant, constant_interval}
 use Rattle.graph.specs.declared.Built.{Built}
 use Rattle.graph.specs.declared.Built.TheVariants as built
-use Rattle.graph.specs.contracts.Built.{the_type}
+use Rattle.graph.specs.declared.NodeId.{NodeId}
 use Rattle.fold.specs.Shape.{same_type, fits}
 use Rattle.plan.specs.Plan as plan
 use Rattle.plan.specs.Plan.{Plan}
@@ -65,14 +62,16 @@ unfolding constant
 constant_answers g t v = inserted-some g t (constant_interval t (reduced t v)) (node.constant (reduced t v))
 
 -- where no node is answered and not None, a program that is tried ends, and its builder with it
-pub masked-stop : (b : Built) (u : ℕ) (g : List ℕ) (k : ℕ → ℕ → List ℕ → Out) (j : ℕ → List ℕ → Out) → OneOf (1 ∷ 2 ∷ 3 ∷ []) (tag_of the_type b) → IsSome (built_of b) →
+pub masked-stop : (b : Built) (u : ℕ) (g : List ℕ) (k : ℕ → ℕ → List ℕ → Out) (j : ℕ → List ℕ → Out) → ((x : NodeId) → b ≡ built.Id x → ⊥) → IsSome (built_of b) →
     on_none (on_id (built_of b) u g k) j ≡ out (built_of b) u g
-masked-stop (built.Id n) u g k j h s = absurd (⊎_elim (λ e. omega arith) (λ q. ⊎_elim (λ e. omega arith) (λ e. omega arith) q) h)
+masked-stop (built.Id x) u g k j h s = absurd (h x refl)
+masked-stop built.None u g k j h s = elim s [ ]
 masked-stop built.Room u g k j h s = refl
 masked-stop built.Units u g k j h s = refl
 
 on_id-some : (a : Reply) (u : ℕ) (g : List ℕ) (k : ℕ → ℕ → List ℕ → Out) → IsSome a → ((n v : ℕ) (h : List ℕ) → IsSome (reply (k n v h))) → IsSome (reply (on_id a u g k))
 on_id-some (id n) u g k s f = f n u g
+on_id-some nothing u g k s f = elim s [ ]
 on_id-some room u g k s f = tt
 on_id-some units u g k s f = tt
 

@@ -1,5 +1,7 @@
 // The six builders: unary, modular, binary, slice, concat and identity call each other, and each entry costs a unit.
 // A builder tests its units, does by itself what it can, and calls others for what is left: so the frames of the recursion are small.
+#![tactic(auto)]
+
 pub mod range_test;
 pub mod step;
 
@@ -22,13 +24,13 @@ use range::ScalarType;
 use word::Word;
 
 // What a call may still use.
-#[derive(Drop)]
+#[derive(Clone, Copy)]
 pub struct Budget {
     pub units: u64,
 }
 
 // A builder's answer, and what is left.
-#[derive(Drop)]
+#[derive(Clone, Copy)]
 pub struct Done {
     pub built: Built,
     pub budget: Budget,
@@ -44,7 +46,7 @@ fn spent() -> Done
 }
 
 // The value at another type.
-#[cycle(and_or_binary_concat_constant_binary_go_on_identity_masked_operation_modular_perform_slice_slice_identity_slice_shift_split_concat_truncated_try_masked_try_modular_unary)]
+#[cycle(builders)]
 pub fn identity(g: &mut [u64], budget: Budget, ty: ScalarType, value: NodeId) -> Done
     requires { length g.old ≡ REGION }
     ensures { out (built_of result.built) result.budget.units g.new ≡ build (call.identity ty value.0) budget.units g.old }
@@ -59,7 +61,7 @@ pub fn identity(g: &mut [u64], budget: Budget, ty: ScalarType, value: NodeId) ->
     perform(g, rest, next)
 }
 
-#[cycle(and_or_binary_concat_constant_binary_go_on_identity_masked_operation_modular_perform_slice_slice_identity_slice_shift_split_concat_truncated_try_masked_try_modular_unary)]
+#[cycle(builders)]
 pub fn unary(g: &mut [u64], budget: Budget, ty: ScalarType, op: Unary, value: NodeId) -> Done
     requires { length g.old ≡ REGION }
     ensures { out (built_of result.built) result.budget.units g.new ≡ build (call.unary ty op value.0) budget.units g.old }
@@ -75,7 +77,7 @@ pub fn unary(g: &mut [u64], budget: Budget, ty: ScalarType, op: Unary, value: No
 }
 
 // A truncation pushed through arithmetic.
-#[cycle(and_or_binary_concat_constant_binary_go_on_identity_masked_operation_modular_perform_slice_slice_identity_slice_shift_split_concat_truncated_try_masked_try_modular_unary)]
+#[cycle(builders)]
 pub fn modular(g: &mut [u64], left: Budget, value: NodeId, width: u16) -> Done
     requires { length g.old ≡ REGION }
     ensures { out (built_of result.built) result.budget.units g.new ≡ build (call.modular value.0 width) left.units g.old }
@@ -90,7 +92,7 @@ pub fn modular(g: &mut [u64], left: Budget, value: NodeId, width: u16) -> Done
     perform(g, rest, next)
 }
 
-#[cycle(and_or_binary_concat_constant_binary_go_on_identity_masked_operation_modular_perform_slice_slice_identity_slice_shift_split_concat_truncated_try_masked_try_modular_unary)]
+#[cycle(builders)]
 pub fn binary(
     g: &mut [u64],
     budget: Budget,
@@ -112,7 +114,7 @@ pub fn binary(
     perform(g, rest, next)
 }
 
-#[cycle(and_or_binary_concat_constant_binary_go_on_identity_masked_operation_modular_perform_slice_slice_identity_slice_shift_split_concat_truncated_try_masked_try_modular_unary)]
+#[cycle(builders)]
 pub fn slice(g: &mut [u64], budget: Budget, value: NodeId, offset: u64, width: u16) -> Done
     requires { length g.old ≡ REGION }
     ensures { out (built_of result.built) result.budget.units g.new ≡ build (call.slice value.0 offset width) budget.units g.old }
@@ -127,7 +129,7 @@ pub fn slice(g: &mut [u64], budget: Budget, value: NodeId, offset: u64, width: u
     perform(g, rest, next)
 }
 
-#[cycle(and_or_binary_concat_constant_binary_go_on_identity_masked_operation_modular_perform_slice_slice_identity_slice_shift_split_concat_truncated_try_masked_try_modular_unary)]
+#[cycle(builders)]
 pub fn concat(
     g: &mut [u64],
     budget: Budget,
@@ -150,7 +152,7 @@ pub fn concat(
 }
 
 // A truncation that is tried; after None the rest of the builder follows. Most often its plan is None: then modular, which would cost a unit and answer it, need not be called.
-#[cycle(and_or_binary_concat_constant_binary_go_on_identity_masked_operation_modular_perform_slice_slice_identity_slice_shift_split_concat_truncated_try_masked_try_modular_unary)]
+#[cycle(builders)]
 fn try_modular(g: &mut [u64], budget: Budget, value: NodeId, width: u16, rest: Rest) -> Done
     requires { length g.old ≡ REGION }
     ensures { out (built_of result.built) result.budget.units g.new ≡ exec build (tries (attempt_prog (plan.modular value.0 width)) (rest_prog rest)) budget.units g.old }
@@ -173,7 +175,7 @@ fn try_modular(g: &mut [u64], budget: Budget, value: NodeId, width: u16, rest: R
 }
 
 // An operation on masked bits that is tried; after None the rest of the builder follows.
-#[cycle(and_or_binary_concat_constant_binary_go_on_identity_masked_operation_modular_perform_slice_slice_identity_slice_shift_split_concat_truncated_try_masked_try_modular_unary)]
+#[cycle(builders)]
 fn try_masked(g: &mut [u64], budget: Budget, masked: MaskedNode, rest: Rest) -> Done
     requires { length g.old ≡ REGION }
     ensures { out (built_of result.built) result.budget.units g.new ≡ exec build (tries (masked_prog masked) (rest_prog rest)) budget.units g.old }
@@ -187,7 +189,7 @@ fn try_masked(g: &mut [u64], budget: Budget, masked: MaskedNode, rest: Rest) -> 
 }
 
 // The rest of a builder.
-#[cycle(and_or_binary_concat_constant_binary_go_on_identity_masked_operation_modular_perform_slice_slice_identity_slice_shift_split_concat_truncated_try_masked_try_modular_unary)]
+#[cycle(builders)]
 fn go_on(g: &mut [u64], budget: Budget, rest: Rest) -> Done
     requires { length g.old ≡ REGION }
     ensures { out (built_of result.built) result.budget.units g.new ≡ exec build (rest_prog rest g.old) budget.units g.old }
@@ -197,7 +199,7 @@ fn go_on(g: &mut [u64], budget: Budget, rest: Rest) -> Done
 }
 
 // Does what is left of a builder's work.
-#[cycle(and_or_binary_concat_constant_binary_go_on_identity_masked_operation_modular_perform_slice_slice_identity_slice_shift_split_concat_truncated_try_masked_try_modular_unary)]
+#[cycle(builders)]
 fn perform(g: &mut [u64], budget: Budget, next: Next) -> Done
     requires { length g.old ≡ REGION }
     ensures { out (built_of result.built) result.budget.units g.new ≡ exec build (next_prog next) budget.units g.old }
@@ -226,7 +228,7 @@ fn perform(g: &mut [u64], budget: Budget, next: Next) -> Done
 }
 
 // A constant, then an operation on the base and it.
-#[cycle(and_or_binary_concat_constant_binary_go_on_identity_masked_operation_modular_perform_slice_slice_identity_slice_shift_split_concat_truncated_try_masked_try_modular_unary)]
+#[cycle(builders)]
 pub(crate) fn constant_binary(
     g: &mut [u64],
     budget: Budget,
@@ -249,7 +251,7 @@ pub(crate) fn constant_binary(
     binary(g, budget, ty, op, base, right)
 }
 
-#[cycle(and_or_binary_concat_constant_binary_go_on_identity_masked_operation_modular_perform_slice_slice_identity_slice_shift_split_concat_truncated_try_masked_try_modular_unary)]
+#[cycle(builders)]
 fn slice_identity(
     g: &mut [u64],
     budget: Budget,
@@ -269,7 +271,7 @@ fn slice_identity(
     identity(g, part.budget, ty, value)
 }
 
-#[cycle(and_or_binary_concat_constant_binary_go_on_identity_masked_operation_modular_perform_slice_slice_identity_slice_shift_split_concat_truncated_try_masked_try_modular_unary)]
+#[cycle(builders)]
 fn slice_shift(
     g: &mut [u64],
     budget: Budget,
@@ -290,7 +292,7 @@ fn slice_shift(
     constant_binary(g, part.budget, kind, count, ty, Binary::ShiftLeft, value)
 }
 
-#[cycle(and_or_binary_concat_constant_binary_go_on_identity_masked_operation_modular_perform_slice_slice_identity_slice_shift_split_concat_truncated_try_masked_try_modular_unary)]
+#[cycle(builders)]
 fn and_or(
     g: &mut [u64],
     budget: Budget,
@@ -310,7 +312,7 @@ fn and_or(
     constant_binary(g, masked.budget, ty, value, ty, Binary::Or, kept)
 }
 
-#[cycle(and_or_binary_concat_constant_binary_go_on_identity_masked_operation_modular_perform_slice_slice_identity_slice_shift_split_concat_truncated_try_masked_try_modular_unary)]
+#[cycle(builders)]
 fn truncated(
     g: &mut [u64],
     budget: Budget,
@@ -336,7 +338,7 @@ fn truncated(
     binary(g, second.budget, ty, op, a, b)
 }
 
-#[cycle(and_or_binary_concat_constant_binary_go_on_identity_masked_operation_modular_perform_slice_slice_identity_slice_shift_split_concat_truncated_try_masked_try_modular_unary)]
+#[cycle(builders)]
 fn split_concat(
     g: &mut [u64],
     budget: Budget,
@@ -364,7 +366,7 @@ fn split_concat(
 }
 
 // And of the base and the mask, then the operation on that and the literal.
-#[cycle(and_or_binary_concat_constant_binary_go_on_identity_masked_operation_modular_perform_slice_slice_identity_slice_shift_split_concat_truncated_try_masked_try_modular_unary)]
+#[cycle(builders)]
 fn masked_operation(g: &mut [u64], budget: Budget, masked: MaskedNode) -> Done
     requires { length g.old ≡ REGION }
     ensures { out (built_of result.built) result.budget.units g.new ≡ exec build (masked_prog masked) budget.units g.old }

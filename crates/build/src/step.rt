@@ -22,7 +22,7 @@ use range::ScalarType;
 use word::Word;
 
 // What a builder starts from: its arguments, or where it goes on after a fold that came to None.
-#[derive(Drop)]
+#[derive(Clone, Copy)]
 pub(crate) enum Start {
     Identity(ScalarType, NodeId),
     Unary(ScalarType, NodeId, Unary),
@@ -34,7 +34,7 @@ pub(crate) enum Start {
 }
 
 // A masked operation whose mask is a node.
-#[derive(Drop)]
+#[derive(Clone, Copy)]
 pub(crate) struct MaskedNode {
     pub base: NodeId,
     pub mask: NodeId,
@@ -45,7 +45,7 @@ pub(crate) struct MaskedNode {
 }
 
 // What is left of a builder's work: its answer, or calls of builders.
-#[derive(Drop)]
+#[derive(Clone, Copy)]
 pub(crate) enum Next {
     Answer(Built),
     Identity(NodeId, ScalarType),

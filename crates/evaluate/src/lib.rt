@@ -1,4 +1,6 @@
 // The operators of scalar nodes, and what they give on 128-bit patterns.
+#![tactic(auto)]
+
 pub mod code;
 pub mod one_operand;
 pub mod pattern;
@@ -11,7 +13,7 @@ use answer::Refusal;
 use range::ScalarType;
 use word::Word;
 
-#[derive(Drop)]
+#[derive(Clone, Copy)]
 pub enum Unary {
     BoolNot,
     BitNot,
@@ -22,7 +24,7 @@ pub enum Unary {
     TrailingZeros(u16),
 }
 
-#[derive(Drop)]
+#[derive(Clone, Copy)]
 pub enum Binary {
     Add,
     Sub,
@@ -46,7 +48,7 @@ pub enum Binary {
 }
 
 // A value, the Rust's None, or a refusal.
-#[derive(Drop)]
+#[derive(Clone, Copy)]
 pub enum Evaluated {
     Value(Word),
     None,

@@ -22,7 +22,7 @@ pub fn from_bool(truth: bool) -> Word
 
 // The pattern of a signed answer.
 pub fn pattern_of(answer: MaybeSigned) -> MaybeWord
-    ensures { number_of result ≡ mapped i128.as-u128 (value_of answer) }
+    ensures { number_of result ≡ mapped i128.as_u128 (value_of answer) }
 {
     match answer {
         MaybeSigned::Some(value) => MaybeWord::Some(value.as_word()),

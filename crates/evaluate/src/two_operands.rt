@@ -27,7 +27,7 @@ fn is_integer(ty: ScalarType) -> bool
 }
 
 fn add(ty: ScalarType, a: Word, b: Word) -> MaybeWord
-    ensures { number_of result ≡ by_type ty (signedly i128.checked-add (val a) (val b)) (some (u128.wrapping_add (val a) (val b))) }
+    ensures { number_of result ≡ by_type ty (signedly i128.checked_add (val a) (val b)) (some (u128.wrapping_add (val a) (val b))) }
 {
     if is_integer(ty) {
         pattern_of(a.as_signed().checked_add(b.as_signed()))
@@ -37,7 +37,7 @@ fn add(ty: ScalarType, a: Word, b: Word) -> MaybeWord
 }
 
 fn sub(ty: ScalarType, a: Word, b: Word) -> MaybeWord
-    ensures { number_of result ≡ by_type ty (signedly i128.checked-sub (val a) (val b)) (some (u128.wrapping-sub (val a) (val b))) }
+    ensures { number_of result ≡ by_type ty (signedly i128.checked_sub (val a) (val b)) (some (u128.wrapping_sub (val a) (val b))) }
 {
     if is_integer(ty) {
         pattern_of(a.as_signed().checked_sub(b.as_signed()))
@@ -47,7 +47,7 @@ fn sub(ty: ScalarType, a: Word, b: Word) -> MaybeWord
 }
 
 fn mul(ty: ScalarType, a: Word, b: Word) -> MaybeWord
-    ensures { number_of result ≡ by_type ty (signedly i128.checked-mul (val a) (val b)) (some (u128.wrapping-mul (val a) (val b))) }
+    ensures { number_of result ≡ by_type ty (signedly i128.checked_mul (val a) (val b)) (some (u128.wrapping_mul (val a) (val b))) }
 {
     if is_integer(ty) {
         pattern_of(a.as_signed().checked_mul(b.as_signed()))

@@ -14,7 +14,7 @@ const RULES: u64 = 64;
 const FUNCTIONS: u64 = 128;
 
 // A pattern of 128 bits, a range, a refusal by its number, or Rust's None. What no vector asks is malformed.
-#[derive(Drop)]
+#[derive(Clone, Copy)]
 pub(crate) enum Answer {
     Pattern(Word),
     Interval(Range),
@@ -24,7 +24,7 @@ pub(crate) enum Answer {
 }
 
 // The first fields of a vector.
-#[derive(Drop)]
+#[derive(Clone, Copy)]
 pub(crate) struct Head {
     pub code: u64,
     pub type_code: u64,
@@ -32,7 +32,7 @@ pub(crate) struct Head {
 }
 
 // The operands: the first two are an evaluator's, and the ends of the first range.
-#[derive(Drop)]
+#[derive(Clone, Copy)]
 pub(crate) struct Operands {
     pub a: Word,
     pub b: Word,

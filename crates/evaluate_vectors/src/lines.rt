@@ -9,13 +9,13 @@ use text::put_text_in_room;
 use vector_lines::{Number, number_of, put_word_in_room, word_of};
 use word::{MaybeWord, Word};
 
-#[derive(Drop)]
+#[derive(Clone, Copy)]
 enum MaybeHead {
     Some(Head),
     None,
 }
 
-#[derive(Drop)]
+#[derive(Clone, Copy)]
 enum MaybeOperands {
     Some(Operands),
     None,

@@ -3,19 +3,19 @@ use evaluate::code::{BITS, BOOL, INTEGER, binary_of, is_binary_code, is_unary_co
 use evaluate::{Binary, Unary};
 use range::ScalarType;
 
-#[derive(Drop)]
+#[derive(Clone, Copy)]
 pub(crate) enum MaybeUnary {
     Some(Unary),
     None,
 }
 
-#[derive(Drop)]
+#[derive(Clone, Copy)]
 pub(crate) enum MaybeBinary {
     Some(Binary),
     None,
 }
 
-#[derive(Drop)]
+#[derive(Clone, Copy)]
 pub(crate) enum MaybeType {
     Some(ScalarType),
     None,

@@ -1,4 +1,6 @@
 // The calls for C and Rust: numbers and slices alone.
+#![tactic(auto)]
+
 pub mod calls;
 pub mod marks;
 pub mod reading;

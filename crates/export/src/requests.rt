@@ -17,7 +17,7 @@ use request::codes::{
 use word::Word;
 
 // The numbers of a call. A type is its code and width, a 128-bit number two, low half first.
-#[derive(Drop)]
+#[derive(Clone, Copy)]
 pub enum Numbers {
     // Type and value.
     Constant(u64, u64, u64, u64),

@@ -12,7 +12,7 @@ use range::{MaybeRange, ScalarType};
 use word::Word;
 
 // The fields of an operation: its code and three words.
-#[derive(Drop)]
+#[derive(Clone, Copy)]
 pub struct Fields {
     pub code: u64,
     pub x: u64,
@@ -21,7 +21,7 @@ pub struct Fields {
 }
 
 // The fields of a range: its presence, minimum and maximum.
-#[derive(Drop)]
+#[derive(Clone, Copy)]
 pub struct Bounds {
     pub flag: u64,
     pub min: Word,

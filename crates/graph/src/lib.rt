@@ -1,4 +1,6 @@
 // The node region: nodes in a lent slice of 64-bit words, interning, and the builders of leaves.
+#![tactic(auto)]
+
 pub mod alias;
 pub mod clear;
 pub mod encode;
@@ -12,16 +14,16 @@ use evaluate::{Binary, Unary};
 use range::{MaybeRange, ScalarType};
 use word::Word;
 
-#[derive(Drop)]
+#[derive(Clone, Copy)]
 pub struct NodeId(pub u64);
 
-#[derive(Drop)]
+#[derive(Clone, Copy)]
 pub struct InputId(pub u64);
 
-#[derive(Drop)]
+#[derive(Clone, Copy)]
 pub struct EffectId(pub u64);
 
-#[derive(Drop)]
+#[derive(Clone, Copy)]
 pub enum Operation {
     Constant(Word),
     Input(InputId),
@@ -43,7 +45,7 @@ pub enum Operation {
 }
 
 // A node as its words say, but for its alias.
-#[derive(Drop)]
+#[derive(Clone, Copy)]
 pub struct Node {
     pub ty: ScalarType,
     pub range: MaybeRange,
@@ -51,7 +53,7 @@ pub struct Node {
 }
 
 // What a builder answers: a node, the Rust's None, no room for a node, or no units left.
-#[derive(Drop)]
+#[derive(Clone, Copy)]
 pub enum Built {
     Id(NodeId),
     None,
@@ -60,7 +62,7 @@ pub enum Built {
 }
 
 // What the search for an equal node answers.
-#[derive(Drop)]
+#[derive(Clone, Copy)]
 pub enum Found {
     At(u64),
     Nothing,

@@ -1,4 +1,6 @@
 // Guards (linear.rs): the comparison that a condition is, and whether two values match it. Nothing here writes.
+#![tactic(auto)]
+
 pub mod guarded;
 pub mod matches;
 pub mod reading;
@@ -8,28 +10,28 @@ use evaluate::Binary;
 use graph::NodeId;
 
 // A node, and what is expected of it.
-#[derive(Drop)]
+#[derive(Clone, Copy)]
 pub struct Condition {
     pub node: NodeId,
     pub expected: bool,
 }
 
 // Two nodes compared.
-#[derive(Drop)]
+#[derive(Clone, Copy)]
 pub struct Comparison {
     pub op: Binary,
     pub left: NodeId,
     pub right: NodeId,
 }
 
-#[derive(Drop)]
+#[derive(Clone, Copy)]
 pub enum MaybeComparison {
     Some(Comparison),
     None,
 }
 
 // A comparison of two nodes, what is expected of it, and whether 64 bits of each value suffice.
-#[derive(Drop)]
+#[derive(Clone, Copy)]
 pub struct Guard {
     pub operation: Binary,
     pub left: NodeId,
@@ -38,14 +40,14 @@ pub struct Guard {
     pub host64: bool,
 }
 
-#[derive(Drop)]
+#[derive(Clone, Copy)]
 pub enum MaybeGuard {
     Some(Guard),
     None,
 }
 
 // Do two values match a guard? Or a refusal.
-#[derive(Drop)]
+#[derive(Clone, Copy)]
 pub enum Matched {
     Is(bool),
     Refused(Refusal),

@@ -1,4 +1,6 @@
 // Marks: what a graph was at some moment, in a lent region of their own, and the calls that set them, return to them and drop them.
+#![tactic(auto)]
+
 pub mod calls;
 pub mod layout;
 pub mod moving;
@@ -11,11 +13,11 @@ ghost use Rattle.mark.specs.Mark.{marking_of, mark_number};
 use answer::Refusal;
 use native::refused_as;
 
-#[derive(Drop)]
+#[derive(Clone, Copy)]
 pub struct MarkId(pub u64);
 
 // The mark that was set, or a refusal.
-#[derive(Drop)]
+#[derive(Clone, Copy)]
 pub enum Marked {
     Mark(MarkId),
     Refused(Refusal),

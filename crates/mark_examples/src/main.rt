@@ -1,5 +1,7 @@
 // Two examples of marks, from the empty graph, the answers one to a line: a guard decides in its arm and no longer after the return; an
 // alias to a Refine that stood before the mark is taken back.
+#![tactic(auto)]
+
 use evaluate::Binary;
 use graph::layout::REGION;
 use graph::{InputId, NodeId};

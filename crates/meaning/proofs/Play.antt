@@ -83,7 +83,7 @@ use Rattle.meaning.proofs.Views.{same_type_lem}
 
 -- an environment, where it meets conditions
 abbrev At : Env → List Condition → World
-At ρ cs = record { env = ρ; sure = AllMet ρ cs }
+At ρ cs = record { env = ρ; IsSure = AllMet ρ cs }
 
 -- what holds where these conditions are met holds where more are
 weaken : (ρ : Env) (cs ds : List Condition) {g : List ℕ} → (AllMet ρ ds → AllMet ρ cs) → Inv (At ρ cs) g → Inv (At ρ ds) g

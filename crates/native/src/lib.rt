@@ -1,4 +1,6 @@
 // The calls: every question in order, then the work. A refusal leaves every lent word as it was.
+#![tactic(auto)]
+
 pub mod by_name;
 mod direct;
 pub mod perform;
@@ -17,7 +19,7 @@ use guard::Guard;
 const DONE: u64 = 0x8000_0000_0000_0000;
 
 // A node, the Rust's None, a guard's Done, or a refusal.
-#[derive(Drop)]
+#[derive(Clone, Copy)]
 pub enum Answer {
     Id(NodeId),
     None,
@@ -26,7 +28,7 @@ pub enum Answer {
 }
 
 // A guard, the Rust's None, or a refusal.
-#[derive(Drop)]
+#[derive(Clone, Copy)]
 pub enum Guarded {
     Some(Guard),
     None,
@@ -34,7 +36,7 @@ pub enum Guarded {
 }
 
 // The number of nodes that a retain left, or a refusal.
-#[derive(Drop)]
+#[derive(Clone, Copy)]
 pub enum Retained {
     Kept(u64),
     Refused(Refusal),

@@ -17,14 +17,14 @@ use word::Word;
 const LAST: u64 = (REGION - 3) as u64;
 
 // A type by its code, if there is one.
-#[derive(Drop)]
+#[derive(Clone, Copy)]
 enum MaybeType {
     Some(ScalarType),
     None,
 }
 
 // What a call answers.
-#[derive(Drop)]
+#[derive(Clone, Copy)]
 pub(crate) enum Reply {
     Id(u64),
     Value(Word),
@@ -38,7 +38,7 @@ pub(crate) enum Reply {
 }
 
 // What becomes of a line. A kind, type or length that there is not is malformed.
-#[derive(Drop)]
+#[derive(Clone, Copy)]
 pub(crate) enum Outcome {
     Answered(Reply),
     Words(Word, Word),

@@ -4,7 +4,7 @@ use vector_lines::{Number, number_of, word_of};
 use word::{MaybeWord, Word};
 
 // The fields of a call. What its kind does not use is not looked at.
-#[derive(Drop)]
+#[derive(Clone, Copy)]
 pub(crate) struct Fields {
     pub kind: u64,
     pub len: u64,
@@ -16,14 +16,14 @@ pub(crate) struct Fields {
     pub b: Word,
 }
 
-#[derive(Drop)]
+#[derive(Clone, Copy)]
 pub(crate) enum MaybeFields {
     Some(Fields),
     None,
 }
 
 // The fields but the operands.
-#[derive(Drop)]
+#[derive(Clone, Copy)]
 struct Numbers {
     kind: u64,
     len: u64,
@@ -33,7 +33,7 @@ struct Numbers {
     flag: u64,
 }
 
-#[derive(Drop)]
+#[derive(Clone, Copy)]
 enum MaybeNumbers {
     Some(Numbers),
     None,

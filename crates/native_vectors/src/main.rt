@@ -1,5 +1,7 @@
 // Replays calls on one region: standard input has a line for each, and standard output gets the answers.
 // It stops at a malformed line, and at the end of the input.
+#![tactic(auto)]
+
 mod answers;
 mod calls;
 mod guards;

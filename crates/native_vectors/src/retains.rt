@@ -12,7 +12,7 @@ const ROOM: u64 = 256;
 // Where the mapping stands among the words held.
 const MAPPING: u64 = 6146;
 
-#[derive(Drop)]
+#[derive(Clone, Copy)]
 pub(crate) enum MaybeReply {
     Some(Reply),
     None,

@@ -31,9 +31,9 @@ module _ (g : List ℕ) (n : ℕ) where
   view_on t k j p h e f = rw (h, e, f)
 
 -- what the `else` of `let Plan::None = .. else` knows
-pub no_stop : (p : declared.Plan) → OneOf (0 ∷ 2 ∷ 3 ∷ 4 ∷ 5 ∷ 6 ∷ 7 ∷ 8 ∷ 9 ∷ 10 ∷ 11 ∷ 12 ∷ 13 ∷ []) (tag_of the_type p) → is_stop (plan_of p) ≡ false
+pub no_stop : (p : declared.Plan) → (p ≡ plan.None → ⊥) → is_stop (plan_of p) ≡ false
 no_stop (plan.Give n) h = refl
-no_stop plan.None h = absurd (⊎_elim (λ e. omega arith) (λ q. ⊎_elim (λ e. omega arith) (λ q. ⊎_elim (λ e. omega arith) (λ q. ⊎_elim (λ e. omega arith) (λ q. ⊎_elim (λ e. omega arith) (λ q. ⊎_elim (λ e. omega arith) (λ q. ⊎_elim (λ e. omega arith) (λ q. ⊎_elim (λ e. omega arith) (λ q. ⊎_elim (λ e. omega arith) (λ q. ⊎_elim (λ e. omega arith) (λ q. ⊎_elim (λ e. omega arith) (λ q. ⊎_elim (λ e. omega arith) (λ e. omega arith) q) q) q) q) q) q) q) q) q) q) q) h)
+no_stop plan.None h = absurd (h refl)
 no_stop (plan.Constant v t) h = refl
 no_stop (plan.Add r o t) h = refl
 no_stop (plan.Identity n t) h = refl

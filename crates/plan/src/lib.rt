@@ -1,4 +1,6 @@
 // What a builder does next, read off the region, and the plans of identity, unary and modular. Nothing here writes.
+#![tactic(auto)]
+
 pub mod one_operand;
 
 use bitfield::Masked;
@@ -8,7 +10,7 @@ use range::{MaybeRange, ScalarType};
 use word::Word;
 
 // What a builder does next. Offsets are u64, so that no sum of them is too large.
-#[derive(Drop)]
+#[derive(Clone, Copy)]
 pub enum Plan {
     Give(NodeId),
     // The Rust's None.
@@ -33,21 +35,21 @@ pub enum Plan {
     SplitConcat(NodeId, NodeId, u64, u16, u16, u16),
 }
 
-#[derive(Drop)]
+#[derive(Clone, Copy)]
 pub enum MaybePlan {
     Some(Plan),
     None,
 }
 
 // A fold that may come to None, after which its builder goes on.
-#[derive(Drop)]
+#[derive(Clone, Copy)]
 pub enum Attempt {
     Modular(NodeId, u16),
     Masked(Masked),
 }
 
 // Where a builder goes on, with its arguments; operands are resolved.
-#[derive(Drop)]
+#[derive(Clone, Copy)]
 pub enum Rest {
     Unary(NodeId, ScalarType, Unary),
     Binary(NodeId, NodeId, ScalarType, Binary),
@@ -56,14 +58,14 @@ pub enum Rest {
 }
 
 // What a builder does first.
-#[derive(Drop)]
+#[derive(Clone, Copy)]
 pub enum First {
     Do(Plan),
     Try(Attempt, Rest),
 }
 
 // Down a chain of Refines: the first source of a type, or the node where the chain starts.
-#[derive(Drop)]
+#[derive(Clone, Copy)]
 pub enum View {
     Same(NodeId),
     Source(NodeId),

@@ -1,16 +1,18 @@
 // The plans of slice and concat. Nothing here writes.
+#![tactic(auto)]
+
 pub mod slice;
 
 use graph::NodeId;
 
 // A slice: of which node, from which offset.
-#[derive(Drop)]
+#[derive(Clone, Copy)]
 pub struct Cut {
     pub value: NodeId,
     pub offset: u16,
 }
 
-#[derive(Drop)]
+#[derive(Clone, Copy)]
 pub enum MaybeCut {
     Some(Cut),
     None,

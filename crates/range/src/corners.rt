@@ -10,7 +10,7 @@ use crate::{MaybeRange, Range};
 use word::{MaybeSigned, Signed};
 
 // The results at the corners of two ranges.
-#[derive(Drop)]
+#[derive(Clone, Copy)]
 pub struct Corners {
     pub values: [Signed; 4],
 }

@@ -1,4 +1,6 @@
 // Types of scalars, and ranges of their values: the range rules of native.rs, each as a function of ranges.
+#![tactic(auto)]
+
 pub mod arithmetic;
 pub mod corners;
 pub mod typed;
@@ -9,7 +11,7 @@ ghost use Rattle.range.specs.Interval.{bounds_of, point, within, same_interval, 
 
 use word::Signed;
 
-#[derive(Drop)]
+#[derive(Clone, Copy)]
 pub enum ScalarType {
     Bool,
     Bits(u16),
@@ -17,13 +19,13 @@ pub enum ScalarType {
 }
 
 // The integers from min to max. Bits are read as non-negative.
-#[derive(Drop)]
+#[derive(Clone, Copy)]
 pub struct Range {
     pub min: Signed,
     pub max: Signed,
 }
 
-#[derive(Drop)]
+#[derive(Clone, Copy)]
 pub enum MaybeRange {
     Some(Range),
     None,

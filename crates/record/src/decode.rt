@@ -35,7 +35,7 @@ const UNSIGNED_RANGE: u8 = 8;
 const GUARD: u8 = 9;
 
 // A request, or none: a bad record.
-#[derive(Drop)]
+#[derive(Clone, Copy)]
 pub enum MaybeRequest {
     Some(Request),
     None,

@@ -26,21 +26,21 @@ const HEADER: usize = 3;
 const RETAIN: u8 = 10;
 
 // The tag of a record, or none: a bad record.
-#[derive(Drop)]
+#[derive(Clone, Copy)]
 enum MaybeTag {
     Some(u8),
     None,
 }
 
 // The bytes of the first record, or none where it is not there whole.
-#[derive(Drop)]
+#[derive(Clone, Copy)]
 pub enum MaybeLength {
     Some(usize),
     None,
 }
 
 // What a record came to: a line of so many bytes, and reading goes on or ends; or there is no room for a line, and nothing was done.
-#[derive(Drop)]
+#[derive(Clone, Copy)]
 pub enum Step {
     Line(usize),
     Last(usize),

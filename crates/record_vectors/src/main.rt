@@ -1,5 +1,7 @@
 // Replays streams of records, each from the empty graph: standard input has the length of each in four bytes, the low one first, and its
 // bytes, standard output gets its lines and an empty one.
+#![tactic(auto)]
+
 ghost use Rattle.std.specs.Prelude.{◌≡◌, ◌≤◌, ◌<◌, length};
 ghost use Rattle.graph.specs.Layout.{REGION};
 
@@ -27,7 +29,7 @@ fn record_length(bytes: &[u8]) -> usize
 }
 
 // The bytes of a line, and whether there may be another record after it.
-#[derive(Drop)]
+#[derive(Clone, Copy)]
 struct Told {
     len: usize,
     goes_on: bool,

@@ -13,20 +13,20 @@ use range::{MaybeRange, Range, ScalarType};
 use word::Word;
 
 // A type by its code, if there is one.
-#[derive(Drop)]
+#[derive(Clone, Copy)]
 pub enum MaybeType {
     Some(ScalarType),
     None,
 }
 
 // An operator by its code, if there is one.
-#[derive(Drop)]
+#[derive(Clone, Copy)]
 pub enum MaybeUnary {
     Some(Unary),
     None,
 }
 
-#[derive(Drop)]
+#[derive(Clone, Copy)]
 pub enum MaybeBinary {
     Some(Binary),
     None,

@@ -1,4 +1,6 @@
 // A request: a call that answers an id, None, Done or a refusal, with its arguments.
+#![tactic(auto)]
+
 pub mod codes;
 pub mod questions;
 pub mod typing;
@@ -9,7 +11,7 @@ use range::{MaybeRange, ScalarType};
 use word::Word;
 
 // A call that answers an id, None, Done or a refusal.
-#[derive(Drop)]
+#[derive(Clone, Copy)]
 pub enum Request {
     Constant(Word, ScalarType),
     Input(InputId, MaybeRange, ScalarType),

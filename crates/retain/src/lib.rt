@@ -1,4 +1,6 @@
 // Retain: the kept nodes move down in order, their operands renumbered and their aliases cleared.
+#![tactic(auto)]
+
 pub mod keep_list;
 
 ghost use Rattle.std.specs.Prelude.{true, cond, ◌≡◌, suc, ◌<◌, length, get_or, set};

@@ -10,7 +10,7 @@ use record::perform::{MaybeLength, Step, first_length, perform_in_graph};
 
 // The first record of some bytes: the bytes read and those written, and reading goes on or ends; or it is not there whole, or there is
 // no room for its line.
-#[derive(Drop)]
+#[derive(Clone, Copy)]
 pub enum One {
     Line(usize, usize),
     Last(usize, usize),
@@ -18,7 +18,7 @@ pub enum One {
 }
 
 // What the records of a block came to: the bytes read and those written, and whether a bad record ended them.
-#[derive(Drop)]
+#[derive(Clone, Copy)]
 pub struct Ran {
     pub read: usize,
     pub written: usize,
@@ -26,7 +26,7 @@ pub struct Ran {
 }
 
 // So many bytes of a block are done, the others wait for more; a bad record was told; or a write failed.
-#[derive(Drop)]
+#[derive(Clone, Copy)]
 pub enum Drained {
     Waiting(usize),
     Over,
@@ -35,7 +35,7 @@ pub enum Drained {
 
 // So many bytes of the buffer are filled, and there may be more; the input ended with so many left; a bad record was told; or a write
 // failed.
-#[derive(Drop)]
+#[derive(Clone, Copy)]
 pub enum State {
     Reading(usize),
     Ended(usize),

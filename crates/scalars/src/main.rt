@@ -1,4 +1,6 @@
 // Reads records from standard input and writes a line for each to standard output; the last line is the number of nodes.
+#![tactic(auto)]
+
 mod blocks;
 
 ghost use Rattle.meaning.specs.Program.{Grown};

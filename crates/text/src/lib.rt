@@ -1,4 +1,6 @@
 // Text in a lent slice: bytes as they are, and numbers in decimal digits.
+#![tactic(auto)]
+
 ghost use Rattle.std.specs.Prelude.{◌≡◌, ◌+◌, ◌≤◌, length};
 ghost use Rattle.text.specs.Text.{placed, end_of, placed_in, decimal};
 

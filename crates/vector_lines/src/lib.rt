@@ -1,4 +1,6 @@
 // The text of test vectors: hex digits that are read, and words that are put into a lent slice in hex digits.
+#![tactic(auto)]
+
 ghost use Rattle.std.specs.Prelude.{◌≡◌, ◌+◌, ◌≤◌, eqb, leb, length};
 ghost use Rattle.word.specs.Value.{val, number_of};
 ghost use Rattle.word.specs.Option.{provided};
@@ -8,7 +10,7 @@ ghost use Rattle.vector_lines.specs.Text.{digit_value, spelled, hex_digits, numb
 use text::put_text_in_room;
 use word::{MaybeWord, Word};
 
-#[derive(Drop)]
+#[derive(Clone, Copy)]
 pub enum Number {
     Value(u64),
     Malformed,

@@ -1,4 +1,6 @@
 // 128-bit words as two 64-bit halves, with the operations of Rust's u128 and i128 that the scalar graph uses.
+#![tactic(auto)]
+
 pub mod bits;
 pub mod order;
 pub mod product;
@@ -8,35 +10,35 @@ pub mod shift;
 pub mod sum;
 
 // A u128: hi * 2^64 + lo.
-#[derive(Drop)]
+#[derive(Clone, Copy)]
 pub struct Word {
     pub lo: u64,
     pub hi: u64,
 }
 
 // An i128: hi * 2^64 + lo. The high half carries the sign.
-#[derive(Drop)]
+#[derive(Clone, Copy)]
 pub struct Signed {
     pub lo: u64,
     pub hi: i64,
 }
 
 // Rust's Option<u128>.
-#[derive(Drop)]
+#[derive(Clone, Copy)]
 pub enum MaybeWord {
     Some(Word),
     None,
 }
 
 // Rust's Option<i128>.
-#[derive(Drop)]
+#[derive(Clone, Copy)]
 pub enum MaybeSigned {
     Some(Signed),
     None,
 }
 
 // What a division gives: the quotient, the remainder, and its number of steps.
-#[derive(Drop)]
+#[derive(Clone, Copy)]
 pub struct Division {
     pub quotient: Word,
     pub remainder: Word,
@@ -44,7 +46,7 @@ pub struct Division {
 }
 
 // A division; none by 0.
-#[derive(Drop)]
+#[derive(Clone, Copy)]
 pub enum MaybeDivision {
     Some(Division),
     None,

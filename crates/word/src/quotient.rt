@@ -9,14 +9,14 @@ use crate::product::{signed_of, signs_differ};
 use crate::{Division, MaybeDivision, MaybeSigned, MaybeWord, Signed, Word};
 
 // A difference modulo 2^128, and 1 if it borrows.
-#[derive(Drop)]
+#[derive(Clone, Copy)]
 struct Difference {
     value: Word,
     borrow: u64,
 }
 
 // A division under way: bits of the quotient, the remainder of what is brought down, and the steps taken.
-#[derive(Drop)]
+#[derive(Clone, Copy)]
 struct Part {
     quotient: u64,
     remainder: Word,

@@ -2,7 +2,7 @@
 use word::{MaybeDivision, MaybeSigned, MaybeWord, Signed, Word};
 
 // A pattern of 128 bits, or Rust's None. A code that no operation has is malformed.
-#[derive(Drop)]
+#[derive(Clone, Copy)]
 pub(crate) enum Answer {
     Pattern(Word),
     Nothing,

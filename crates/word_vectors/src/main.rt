@@ -1,5 +1,7 @@
 // Replays test vectors against the crate word: standard input has a line for each, and standard output gets the answers.
 // It stops at a malformed line, and at the end of the input.
+#![tactic(auto)]
+
 mod answers;
 mod lines;
 
@@ -8,7 +10,7 @@ ghost use Rattle.io.specs.Counts.{IsPrefixLen};
 use libc::{STDIN_FILENO, STDOUT_FILENO};
 use lines::put_answer_to;
 
-#[derive(Drop)]
+#[derive(Clone, Copy)]
 struct Replayed {
     len: usize,
     is_whole: bool,

@@ -1,0 +1,7 @@
+use Rattle.word.specs.Value.{int_of}
+use borrow.Author.Rules.{rules}
+use Rattle.assume.proofs.limit.one_more.Goals as goal
+
+pub returns : goal.returns
+unfolding int_of
+returns c = c.checked_add.ensures

@@ -1,0 +1,52 @@
+use mathlib.Core.Path.{◌≡◌, refl, sym, ap, ◌∙◌}
+use Prim.Native.Nat.{◌-◌}
+use native.Mathlib.Omega.{arith}
+use borrow.Author.Rules.{rules}
+use lib.ListN.{length}
+use Rattle.assume.specs.Limits.{limits_of}
+use Rattle.assume.specs.Refine.{narrowed, outcome_of, refine_up_to, refined}
+use Rattle.assume.proofs.Laws.{steps_none, steps_on}
+use Rattle.assume.proofs.refine.refine.Goals as goal
+
+pub loop-left-init : goal.loop-left-init
+unfolding refined
+loop-left-init c = (refl, refl)
+
+pub resolve-target-requires : goal.resolve-target-requires
+resolve-target-requires c = omega (arith, c.loop-left.invariant.1)
+
+pub refine_step-step-requires : goal.refine_step-step-requires
+refine_step-step-requires c = omega (arith, c.loop-left.invariant.1)
+
+pub shape_of-g-in-Unchanged : goal.shape_of-g-in-Unchanged
+shape_of-g-in-Unchanged c = c.refine_step-step.auto.0 ∙ c.loop-left.invariant.1
+
+pub returns-in-Unchanged : goal.returns-in-Unchanged
+returns-in-Unchanged c = let e = rw c.in-Unchanged.is at c.refine_step-step.ensures in sym (c.loop-left.invariant.0 ∙ steps_on (c.loop-left.left - 1) c.loop-left.left _ _ _ _ _ _ (omega arith) c.resolve-target.ensures _ _ e)
+
+pub shape_of-g-in-Full : goal.shape_of-g-in-Full
+shape_of-g-in-Full c = c.refine_step-step.auto.0 ∙ c.loop-left.invariant.1
+
+pub returns-in-Full : goal.returns-in-Full
+returns-in-Full c = let e = rw c.in-Full.is at c.refine_step-step.ensures in sym (c.loop-left.invariant.0 ∙ steps_on (c.loop-left.left - 1) c.loop-left.left _ _ _ _ _ _ (omega arith) c.resolve-target.ensures _ _ e)
+
+pub shape_of-g-in_default : goal.shape_of-g-in_default
+shape_of-g-in_default c = c.refine_step-step.auto.0 ∙ c.loop-left.invariant.1
+
+pub returns-in_default : goal.returns-in_default
+returns-in_default c = let e = rw (c.in-Narrowed.is, c.in_default.is) at c.refine_step-step.ensures in sym (c.loop-left.invariant.0 ∙ steps_on (c.loop-left.left - 1) c.loop-left.left _ _ _ _ _ _ (omega arith) c.resolve-target.ensures _ _ e)
+
+pub overflow_sub-left : goal.overflow_sub-left
+overflow_sub-left c = omega arith
+
+pub loop-left-smaller : goal.loop-left-smaller
+loop-left-smaller c = omega arith
+
+pub loop-left-preserved : goal.loop-left-preserved
+loop-left-preserved c = let e = rw (c.in-Narrowed.is, c.in-Some.is) at c.refine_step-step.ensures in (c.loop-left.invariant.0 ∙ steps_on (c.loop-left.left - 1) c.loop-left.left _ _ _ _ _ _ (omega arith) c.resolve-target.ensures _ _ e ∙ ap (refine_up_to (c.loop-left.left - 1) narrowed _ _) (sym c.limited_to-wanted.ensures), c.refine_step-step.auto.0 ∙ c.loop-left.invariant.1)
+
+pub shape_of-g : goal.shape_of-g
+shape_of-g c = c.loop-left.invariant.1
+
+pub returns : goal.returns
+returns c = sym (c.loop-left.invariant.0 ∙ steps_none c.loop-left.left _ _ _ _ (omega arith))

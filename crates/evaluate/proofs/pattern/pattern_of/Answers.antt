@@ -1,0 +1,6 @@
+-- `pattern_of` meets its contract.
+use borrow.Author.Rules.{rules}
+use Rattle.evaluate.proofs.pattern.pattern_of.Goals as goal
+
+pub returns-in-Some : goal.returns-in-Some
+returns-in-Some c = simp (c.in-Some.is, ← c.as_word.ensures)

@@ -1,0 +1,12 @@
+-- `reduced` meets its contract, by the type.
+use borrow.Author.Rules.{rules}
+use Rattle.evaluate.proofs.pattern.reduced.Goals as goal
+
+pub returns-in-Bool : goal.returns-in-Bool
+returns-in-Bool c = simp c.in-Bool.is
+
+pub returns-in-Bits : goal.returns-in-Bits
+returns-in-Bits c = simp (c.in-Bits.is, ← c.low_bits.ensures)
+
+pub returns-in-Integer : goal.returns-in-Integer
+returns-in-Integer c = simp c.in-Integer.is

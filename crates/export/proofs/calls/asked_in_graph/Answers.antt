@@ -1,0 +1,7 @@
+use Rattle.export.specs.Export.{exported, numbered}
+use mathlib.Core.Path.{ap, ◌∙◌}
+use borrow.Author.Rules.{rules}
+use Rattle.export.proofs.calls.asked_in_graph.Goals as goal
+
+pub returns : goal.returns
+returns c = (λ i. exported (c.number.ensures i) c.call_in_graph.new.0) ∙ ap numbered c.call_in_graph.ensures

@@ -1,0 +1,6 @@
+-- The request is the one that the numbers name.
+use borrow.Author.Rules.{rules}
+use Rattle.export.proofs.calls.scalars_concat_in_graph.Goals as goal
+
+pub returns : goal.returns
+returns c = rw (← c.concat_request.ensures) c.asked_in_graph.ensures

@@ -1,0 +1,16 @@
+use Rattle.export.specs.Export.{exported}
+use Rattle.export.specs.Reading.{guard_numbered}
+use mathlib.Core.Path.{sym, ◌∙◌}
+use borrow.Author.Rules.{rules}
+use Rattle.export.proofs.reading.scalars_guard.Goals as goal
+
+pub scalars_guard_in_graph-requires : goal.scalars_guard_in_graph-requires
+scalars_guard_in_graph-requires c = sym c.is_graph.ensures ∙ c.if-is_graph.true
+
+pub returns-then-is_graph : goal.returns-then-is_graph
+unfolding guard_numbered
+returns-then-is_graph c = rw (← c.is_graph.ensures, c.if-is_graph.true) c.scalars_guard_in_graph.ensures
+
+pub returns-else-is_graph : goal.returns-else-is_graph
+unfolding guard_numbered
+returns-else-is_graph c = rw (← c.is_graph.ensures, c.if-is_graph.false) (λ i. exported (c.refused_as.ensures i) c.args.out.now)

@@ -1,0 +1,13 @@
+use Rattle.word.specs.Value.{val}
+use Rattle.export.specs.Reading.{match_number, matches_by_code}
+use mathlib.Core.Path.{ap, ◌∙◌}
+use borrow.Author.Rules.{rules}
+use Rattle.export.proofs.reading.scalars_matches.Goals as goal
+
+pub returns-in_default : goal.returns-in_default
+unfolding matches_by_code
+returns-in_default c = rw (← c.values_guard-named.ensures, c.in_default.is) c.refused_as.ensures
+
+pub returns : goal.returns
+unfolding matches_by_code val
+returns c = rw (← c.values_guard-named.ensures, c.in-Some.is) (c.match_number.ensures ∙ ap match_number c.matches.ensures)

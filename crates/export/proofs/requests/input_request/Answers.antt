@@ -1,0 +1,11 @@
+use Rattle.export.specs.Numbers.{input_by_code}
+use borrow.Author.Rules.{rules}
+use Rattle.export.proofs.requests.input_request.Goals as goal
+
+pub returns-in-Some : goal.returns-in-Some
+unfolding input_by_code
+returns-in-Some c = rw (← c.type_by_code-named.ensures, c.in-Some.is)
+
+pub returns-in-None : goal.returns-in-None
+unfolding input_by_code
+returns-in-None c = rw (← c.type_by_code-named.ensures, c.in-None.is, ← c.clamped_width.ensures)

@@ -1,0 +1,13 @@
+use borrow.Author.Rules.{rules}
+use mathlib.Core.Path.{ap, ◌∙◌}
+use Rattle.native.specs.Retain.{outcome_number}
+use Rattle.mark.specs.Mark.{Retaining}
+use Rattle.export.proofs.retain_nodes.scalars_retain.Goals as goal
+
+pub returns : goal.returns
+returns c = (
+  c.number.ensures ∙ ap (λ (r : Retaining). outcome_number r.retention.outcome) c.retain.ensures,
+  ap (λ (r : Retaining). r.retention.words) c.retain.ensures,
+  ap (λ (r : Retaining). r.marks) c.retain.ensures,
+  ap (λ (r : Retaining). r.retention.mapping) c.retain.ensures,
+)

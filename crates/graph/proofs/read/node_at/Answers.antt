@@ -1,0 +1,6 @@
+-- `read::node_at` meets its contract: its three parts.
+use borrow.Author.Rules.{rules}
+use Rattle.graph.proofs.read.node_at.Goals as goal
+
+pub returns : goal.returns
+returns c = simp (← c.type_at-ty.ensures, ← c.range_at-range.ensures, ← c.operation_at-operation.ensures)

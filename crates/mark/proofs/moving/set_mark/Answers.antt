@@ -1,0 +1,34 @@
+use mathlib.Core.Path.{◌∙◌}
+use Prim.Native.Nat.{ℕ, ◌+◌, ◌-◌}
+use native.Mathlib.Nat.{add-sub_cancel_left}
+use native.Mathlib.Omega.{arith}
+use borrow.Author.Rules.{rules}
+use borrow.Rule.Slice.PartMut.{same_len_mid}
+use lib.ListN.{set, length-set}
+use Rattle.graph.specs.Layout.{LIMIT}
+use Rattle.mark.specs.Layout.{mark_start}
+use Rattle.mark.proofs.Marks.{marked_by_lem}
+use Rattle.mark.proofs.moving.set_mark.Goals as goal
+
+pub bounds-m-at : goal.bounds-m-at
+bounds-m-at c = simp length-set (omega arith)
+
+-- no goal slice-bounds-save-aliases-start
+-- part-save-aliases-start c = search rules
+
+-- no goal slice-bounds-save-aliases-end
+-- part-save-aliases-end c = simp length-set (omega arith)
+
+pub shape_of-m : goal.shape_of-m
+shape_of-m c =
+    let a = c.args in
+    let m = set (set a.m.now 0 (a.mark + 1)) (mark_start a.mark) c.count.result in
+    same_len_mid {X = ℕ} (mark_start a.mark + 1) (mark_start a.mark + 1 + LIMIT - (mark_start a.mark + 1)) m c.save_aliases.new.1.0 c.save_aliases.auto.1.0
+    ∙ length-set (set a.m.now 0 (a.mark + 1)) _ _ ∙ length-set a.m.now _ _
+
+pub returns : goal.returns
+returns c =
+    let a = c.args in
+    let n = mark_start a.mark + 1 + LIMIT - (mark_start a.mark + 1) in
+    marked_by_lem a.g.now a.m.now a.mark n c.count.result c.save_aliases.new.1.0
+    (add-sub_cancel_left (mark_start a.mark + 1) LIMIT) c.count.ensures c.save_aliases.ensures

@@ -1,0 +1,18 @@
+use borrow.Author.Rules.{rules}
+use mathlib.Core.Path.{ap, ◌∙◌}
+use Rattle.native.specs.Retain.{Retention}
+use Rattle.mark.specs.Mark.{unmarked, retaining, retain_in_graph}
+use Rattle.mark.proofs.Facts.{marked_both, regions_facts}
+use Rattle.mark.proofs.retain_nodes.retain_in_graph.Goals as goal
+
+pub retain_unmarked_in_graph-retained-requires : goal.retain_unmarked_in_graph-retained-requires
+retain_unmarked_in_graph-retained-requires c = (marked_both _ _ c.requires).0
+
+pub drop_marks-requires : goal.drop_marks-requires
+drop_marks-requires c = (regions_facts _ _ c.requires).1.length
+
+pub returns : goal.returns
+unfolding retain_in_graph
+returns c =
+    let d = c.drop_marks.ensures ∙ ap (λ (x : Retention). unmarked x.outcome c.args.m.now) c.retain_unmarked_in_graph-retained.ensures in
+    λ i. retaining (c.retain_unmarked_in_graph-retained.ensures i) (d i)

@@ -1,0 +1,7 @@
+use Rattle.native.specs.Perform.{request_in_graph}
+use borrow.Author.Rules.{rules}
+use Rattle.native.proofs.perform.call_in_graph.Goals as goal
+
+pub returns : goal.returns
+unfolding request_in_graph
+returns c = c.perform.ensures

@@ -1,0 +1,30 @@
+use Rattle.native.specs.Guard.{guard_in_graph}
+use Rattle.graph.proofs.Grown.{graph_facts}
+use borrow.Author.Tests.{lt-ltb, le-ltb}
+use borrow.Author.Rules.{rules}
+use Rattle.native.proofs.reading.guard_in_graph.Goals as goal
+
+pub count-requires : goal.count-requires
+count-requires c = (graph_facts _ c.requires).length
+
+pub type_at-requires : goal.type_at-requires
+type_at-requires c = (graph_facts _ c.requires).length
+
+pub guarded-found-requires : goal.guarded-found-requires
+guarded-found-requires c = (graph_facts _ c.requires).length
+
+pub returns-in-Some : goal.returns-in-Some
+unfolding guard_in_graph
+returns-in-Some c = rw (← c.count.ensures, lt-ltb _ _ c.if-condition-count.true, ← c.type_at.ensures, ← c.same_type.ensures, c.if-same_type.true, ← c.guarded-found.ensures, c.in-Some.is)
+
+pub returns-in-None : goal.returns-in-None
+unfolding guard_in_graph
+returns-in-None c = rw (← c.count.ensures, lt-ltb _ _ c.if-condition-count.true, ← c.type_at.ensures, ← c.same_type.ensures, c.if-same_type.true, ← c.guarded-found.ensures, c.in-None.is)
+
+pub returns-else-same_type : goal.returns-else-same_type
+unfolding guard_in_graph
+returns-else-same_type c = rw (← c.count.ensures, lt-ltb _ _ c.if-condition-count.true, ← c.type_at.ensures, ← c.same_type.ensures, c.if-same_type.false)
+
+pub returns-else-condition-count : goal.returns-else-condition-count
+unfolding guard_in_graph
+returns-else-condition-count c = rw (← c.count.ensures, le-ltb _ _ c.if-condition-count.false)

@@ -1,0 +1,27 @@
+-- `literal_in_graph` meets its contract: question 3, then the constant's value.
+use Rattle.native.specs.Call.{literal_in_graph}
+use Rattle.graph.proofs.Grown.{graph_facts}
+use borrow.Author.Tests.{lt-ltb, le-ltb}
+use borrow.Author.Rules.{rules}
+use Rattle.native.proofs.reading.literal_in_graph.Goals as goal
+
+pub count-requires : goal.count-requires
+count-requires c = (graph_facts _ c.requires).length
+
+pub literal-value-requires : goal.literal-value-requires
+literal-value-requires c = (graph_facts _ c.requires).length
+
+pub returns-in-Some : goal.returns-in-Some
+unfolding literal_in_graph
+returns-in-Some c =
+    rw (← c.count.ensures, lt-ltb _ _ c.if-id-count.true, ← c.literal-value.ensures, c.in-Some.is)
+
+pub returns-in-None : goal.returns-in-None
+unfolding literal_in_graph
+returns-in-None c =
+    rw (← c.count.ensures, lt-ltb _ _ c.if-id-count.true, ← c.literal-value.ensures, c.in-None.is)
+
+pub returns-else-id-count : goal.returns-else-id-count
+unfolding literal_in_graph
+returns-else-id-count c =
+    rw (← c.count.ensures, le-ltb _ _ c.if-id-count.false)

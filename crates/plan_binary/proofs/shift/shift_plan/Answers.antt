@@ -1,0 +1,11 @@
+use borrow.Author.Rules.{rules}
+use Rattle.plan_binary.proofs.shift.shift_plan.Goals as goal
+
+pub returns-in-Bool : goal.returns-in-Bool
+returns-in-Bool c = simp c.in-Bool.is
+
+pub returns-in-Bits : goal.returns-in-Bits
+returns-in-Bits c = simp (c.in-Bits.is, ← c.bits_shift.ensures)
+
+pub returns-in-Integer : goal.returns-in-Integer
+returns-in-Integer c = simp c.in-Integer.is

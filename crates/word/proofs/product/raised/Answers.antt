@@ -1,0 +1,29 @@
+-- `raised` meets its contract: the sum fits where `high` has a low half only and the high halves' sum does not wrap. Assumes nothing.
+use Rattle.std.proofs.Common.{◌≡◌, ◌+◌, ◌*◌, ◌^◌, arith, rules, le-ltb, lt-ltb}
+use Rattle.word.specs.Value.{val}
+use Rattle.word.specs.declared.Word.{Word}
+use Rattle.word.proofs.Halves.{val-lt}
+use Rattle.word.proofs.Products.{raise, past_raise, low_only, high_set}
+use Rattle.word.proofs.product.raised.Goals as goal
+
+pub returns-then-high-ne0 : goal.returns-then-high-ne0
+unfolding val
+returns-then-high-ne0 c =
+    let g = c.args in
+    rw (le-ltb _ _ (past_raise 64 (val g.high) g.low.hi g.low.lo (omega (arith, high_set g.high c.if-high-ne0.true))))
+
+pub returns-then-hi-low : goal.returns-then-hi-low
+unfolding val
+returns-then-hi-low c =
+    let g = c.args in
+    rw (le-ltb _ _ (past_raise 64 (val g.high) g.low.hi g.low.lo (omega arith)))
+
+pub returns : goal.returns
+unfolding val
+returns c =
+    let g = c.args in
+    let sum : Word = record { lo = g.low.lo; hi = c.wrapping_add_u64-hi.result } in
+    let h : sum.hi ≡ g.low.hi + g.high.lo = omega arith in
+    let e : val g.high * 2 ^ 64 + val g.low ≡ val sum =
+    rw (low_only g.high c.if-high-ne0.false, h) (raise (2 ^ 64) g.high.lo g.low.hi g.low.lo) in
+    rw (e, lt-ltb _ _ (val-lt sum (search rules) (search rules)))
