@@ -7,10 +7,11 @@ mod lines;
 mod operators;
 mod rules;
 
-ghost use Rattle.io.specs.Counts.{IsPrefixLen};
+ghost use Rattle.std.specs.Prelude.{◌≡◌, ◌≤◌, length, take};
 
-use libc::{STDIN_FILENO, STDOUT_FILENO};
 use lines::put_answer_to;
+use std::io;
+use std::io::Read;
 
 #[derive(Clone, Copy)]
 struct Replayed {
@@ -20,7 +21,8 @@ struct Replayed {
 
 // Puts the answers to the lines of block at the start of out.
 fn replay(block: &[u8], out: &mut [u8]) -> Replayed
-    ensures { IsPrefixLen result.len out.new }
+    ensures in_bounds { result.len ≤ length out.new }
+    ensures prefix { result.len ≡ length (take result.len out.new) }
 {
     let mut from = 0;
     let mut len = 0;
@@ -48,23 +50,21 @@ fn replay(block: &[u8], out: &mut [u8]) -> Replayed
 }
 
 // Replays 64 lines, and answers whether there may be more. A line has 141 bytes, and an answer at most 66.
-fn replay_some() -> bool {
-    let mut block = [0u8; 9024];
+fn replay_some(rt: &(impl Input + Print + Alloc)) -> io::Result<bool> {
+    let mut block = Vec::new(rt.alloc());
     let mut out = [0u8; 4224];
-    let n = io::read_full(STDIN_FILENO, &mut block);
-    let replayed = replay(&block[..n], &mut out);
+    let n = rt.reader().take(9024).read_to_end(&mut block)?;
+    let replayed = replay(&block, &mut out);
     let len = replayed.len;
-    if io::write_all(STDOUT_FILENO, &out[..len]) {
-        if n == 9024 { replayed.is_whole } else { false }
-    } else {
-        false
-    }
+    rt.write_all(&out[..len])?;
+    Ok(n == 9024 && replayed.is_whole)
 }
 
 // A proved loop has to end: it counts its turns down, from a number that no run uses up.
-fn main() {
+fn main(rt: HostRuntime) -> io::Result<()> {
     let mut turns = u64::MAX;
-    while turns > 0 && replay_some() {
+    while turns > 0 && replay_some(&rt)? {
         turns -= 1;
     }
+    Ok(())
 }

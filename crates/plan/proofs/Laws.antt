@@ -2,12 +2,8 @@
 use mathlib.Core.Path.{◌≡◌, refl}
 use mathlib.Core.Bool.{true, false, false≢true}
 use mathlib.Core.List.{List, [], ◌∷◌}
-use mathlib.Core.Logic.{⊎_elim}
 use mathlib.Core.Option.{none, some}
 use Prim.Native.Nat.{ℕ, zero, suc}
-use types.Run.{OneOf}
-use denote.Enum.Declared.{tag_of}
-use native.Mathlib.Omega.{arith}
 use Rattle.range.specs.declared.ScalarType.{ScalarType}
 use Rattle.graph.specs.Node.{type_at}
 use Rattle.fold.specs.Shape.{same_type, refined_at}
@@ -16,7 +12,6 @@ use Rattle.plan.specs.declared.Plan.TheVariants as plan
 use Rattle.plan.specs.Plan as spec
 use Rattle.plan.specs.Plan.{Plan, stop, plan_of, is_stop}
 use Rattle.plan.specs.OneOperand.{same, source, view_from}
-use Rattle.plan.specs.contracts.Plan.{the_type}
 
 module _ (g : List ℕ) (n : ℕ) where
   pub view_end : (t : ScalarType) (k : ℕ) → refined_at g n ≡ none → view_from g t k n ≡ source n

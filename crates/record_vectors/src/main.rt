@@ -6,9 +6,9 @@ ghost use Rattle.std.specs.Prelude.{◌≡◌, ◌≤◌, ◌<◌, length};
 ghost use Rattle.graph.specs.Layout.{REGION};
 
 use graph::layout::{NODES, REGION, count};
-use libc::{STDIN_FILENO, STDOUT_FILENO};
 use record::line::put_nodes;
 use record::perform::{MaybeLength, Step, first_length, perform};
+use std::io::{Read, Stdin, Stdout, Write};
 use text::put_text;
 
 // The most bytes of a stream, and of its lines.
@@ -103,9 +103,9 @@ fn length_of(header: &[u8]) -> usize
 }
 
 // Replays a stream, and answers whether there may be more.
-fn replay_stream() -> bool {
+fn replay_stream(mut stdin: Stdin, mut stdout: Stdout) -> bool {
     let mut header = [0u8; 4];
-    if io::read_full(STDIN_FILENO, &mut header) != 4 {
+    if stdin.read_exact(&mut header).is_err() {
         return false;
     }
     let len = length_of(&header);
@@ -113,18 +113,18 @@ fn replay_stream() -> bool {
     if STREAM < len {
         return false;
     }
-    if io::read_full(STDIN_FILENO, &mut stream[0..len]) != len {
+    if stdin.read_exact(&mut stream[0..len]).is_err() {
         return false;
     }
     let mut out = [0u8; LINES];
     let end = put_stream(&stream[0..len], &mut out);
-    io::write_all(STDOUT_FILENO, &out[0..end])
+    stdout.write_all(&out[0..end]).is_ok()
 }
 
 // A proved loop has to end: it counts its turns down, from a number that no run uses up.
-fn main() {
+fn main(rt: HostRuntime) {
     let mut turns = u64::MAX;
-    while turns > 0 && replay_stream() {
+    while turns > 0 && replay_stream(rt.stdin(), rt.stdout()) {
         turns -= 1;
     }
 }

@@ -4,9 +4,9 @@ ghost use Rattle.meaning.specs.Program.{Grown};
 ghost use Rattle.scalars.specs.Blocks.{OneSays, Through, Stops, Drains, Fills};
 
 use graph::layout::count;
-use libc::{STDIN_FILENO, STDOUT_FILENO};
 use record::line::put_nodes;
 use record::perform::{MaybeLength, Step, first_length, perform_in_graph};
+use std::io::{Read, Stdin, Stdout, Write};
 
 // The first record of some bytes: the bytes read and those written, and reading goes on or ends; or it is not there whole, or there is
 // no room for its line.
@@ -93,7 +93,13 @@ fn run_records(g: &mut [u64], mapping: &mut [u64], input: &[u8], out: &mut [u8])
 }
 
 // Runs a block's records and writes their lines, until no whole record is left.
-fn drain(g: &mut [u64], mapping: &mut [u64], input: &[u8], out: &mut [u8]) -> Drained
+fn drain(
+    mut stdout: Stdout,
+    g: &mut [u64],
+    mapping: &mut [u64],
+    input: &[u8],
+    out: &mut [u8],
+) -> Drained
     requires { Grown g.old }
     ensures drains { Drains result input.now }
     ensures grown { Grown g.new }
@@ -102,7 +108,7 @@ fn drain(g: &mut [u64], mapping: &mut [u64], input: &[u8], out: &mut [u8]) -> Dr
     loop {
         let ran = run_records(g, mapping, &input[done..], out);
         let written = ran.written;
-        if !io::write_all(STDOUT_FILENO, &out[0..written]) {
+        if stdout.write_all(&out[0..written]).is_err() {
             return Drained::Failed;
         }
         if ran.over {
@@ -128,14 +134,18 @@ fn move_down(input: &mut [u8], from: usize, to: usize)
 }
 
 // Reads once, and answers how many bytes came. A read that fails counts as the end of the input.
-fn read_some(input: &mut [u8]) -> usize
+fn read_some(mut stdin: Stdin, input: &mut [u8]) -> usize
     ensures { result ≤ length input.old }
 {
-    let got = libc::read(STDIN_FILENO, input);
-    io::count(got, input)
+    match stdin.read(input) {
+        Ok(got) => got,
+        Err(_) => 0,
+    }
 }
 
 pub(crate) fn turn(
+    stdin: Stdin,
+    stdout: Stdout,
     g: &mut [u64],
     mapping: &mut [u64],
     input: &mut [u8],
@@ -146,12 +156,12 @@ pub(crate) fn turn(
     ensures fills { Fills result input.old }
     ensures grown { Grown g.new }
 {
-    let got = read_some(&mut input[filled..]);
+    let got = read_some(stdin, &mut input[filled..]);
     if got == 0 {
         return State::Ended(filled);
     }
     let end = filled + got;
-    let drained = drain(g, mapping, &input[0..end], out);
+    let drained = drain(stdout, g, mapping, &input[0..end], out);
     match drained {
         Drained::Waiting(done) => {
             move_down(input, done, end);
@@ -180,10 +190,16 @@ fn end_inside(g: &mut [u64], mapping: &mut [u64], rest: &[u8], out: &mut [u8]) -
 }
 
 // The last lines: that of a record cut off, and the number of nodes.
-pub(crate) fn finish(g: &mut [u64], mapping: &mut [u64], rest: &[u8], out: &mut [u8])
+pub(crate) fn finish(
+    mut stdout: Stdout,
+    g: &mut [u64],
+    mapping: &mut [u64],
+    rest: &[u8],
+    out: &mut [u8],
+)
     requires { Grown g.old }
 {
     let at = end_inside(g, mapping, rest, out);
     let end = put_nodes(count(g), &mut out[at..]);
-    io::write_all(STDOUT_FILENO, &out[0..at + end]);
+    let _is_written = stdout.write_all(&out[0..at + end]).is_ok();
 }

@@ -7,26 +7,34 @@ ghost use Rattle.meaning.specs.Program.{Grown};
 
 use blocks::{State, finish, turn};
 use graph::layout::{NODES, REGION};
+use std::io::{Stdin, Stdout};
 
 // A proved loop has to end: it counts its turns down, from a number that no run uses up.
-fn run(g: &mut [u64], mapping: &mut [u64], input: &mut [u8], out: &mut [u8])
+fn run(
+    stdin: Stdin,
+    stdout: Stdout,
+    g: &mut [u64],
+    mapping: &mut [u64],
+    input: &mut [u8],
+    out: &mut [u8],
+)
     requires { Grown g.old }
 {
     let mut filled = 0;
     let mut turns = u64::MAX;
     while 0 < turns {
         turns -= 1;
-        let state = turn(g, mapping, input, filled, out);
+        let state = turn(stdin, stdout, g, mapping, input, filled, out);
         match state {
             State::Reading(left) => {
                 filled = left;
             }
             State::Ended(left) => {
-                finish(g, mapping, &input[0..left], out);
+                finish(stdout, g, mapping, &input[0..left], out);
                 return;
             }
             State::Over => {
-                finish(g, mapping, &input[0..0], out);
+                finish(stdout, g, mapping, &input[0..0], out);
                 return;
             }
             State::Failed => {
@@ -37,10 +45,17 @@ fn run(g: &mut [u64], mapping: &mut [u64], input: &mut [u8], out: &mut [u8])
 }
 
 // The longest record has 65,538 bytes: a full buffer holds a whole one.
-fn main() {
+fn main(rt: HostRuntime) {
     let mut g = [0u64; REGION];
     let mut mapping = [0u64; NODES];
     let mut input = [0u8; 131072];
     let mut out = [0u8; 65536];
-    run(&mut g, &mut mapping, &mut input, &mut out);
+    run(
+        rt.stdin(),
+        rt.stdout(),
+        &mut g,
+        &mut mapping,
+        &mut input,
+        &mut out,
+    );
 }

@@ -53,8 +53,8 @@ try_modular-returns-in_default t c = rw (on_out-tail, ← c.modular-tried.ensure
 pub try_modular-go_on-requires : goal.try_modular-go_on-requires
 try_modular-go_on-requires t c =
     elim c.if-has_modular_plan.branch [
-      try_modular-then-has_modular_plan+in-None w ↦ omega (arith, none_falls _ _ _ (rw w.in-None.is at w.modular-tried.ensures), ap length w.g-is, ap (λ (b : Budget). b.units) w.left-is)
-    | try_modular-else-has_modular_plan w ↦ omega (arith, ap length w.g-is, ap (λ (b : Budget). b.units) w.left-is)
+      | try_modular-then-has_modular_plan+in-None w ↦ omega (arith, none_falls _ _ _ (rw w.in-None.is at w.modular-tried.ensures), ap length w.g-is, ap (λ (b : Budget). b.units) w.left-is)
+      | try_modular-else-has_modular_plan w ↦ omega (arith, ap length w.g-is, ap (λ (b : Budget). b.units) w.left-is)
     ]
 
 pub try_modular-returns : goal.try_modular-returns
@@ -62,10 +62,10 @@ try_modular-returns t c =
     let a = c.args in
     let r = a.rest in
     elim c.if-has_modular_plan.branch [
-      try_modular-then-has_modular_plan+in-None w ↦ c.go_on.ensures ∙ (λ i. exec build (rest_prog r (w.g-is i)) (w.left-is i).units (w.g-is i)) ∙ rw (on_out-tail, ← w.modular-tried.ensures, w.in-None.is)
-    | try_modular-else-has_modular_plan w ↦
-        c.go_on.ensures ∙ (λ i. exec build (rest_prog r (w.g-is i)) (w.left-is i).units (w.g-is i))
-        ∙ sym (try_stop a.value.0 a.width a.budget.units (rest_prog r) a.g.now c.if-budget-eq0.false (not-false _ (sym c.has_modular_plan.ensures ∙ w.if-has_modular_plan.false)))
+      | try_modular-then-has_modular_plan+in-None w ↦ c.go_on.ensures ∙ (λ i. exec build (rest_prog r (w.g-is i)) (w.left-is i).units (w.g-is i)) ∙ rw (on_out-tail, ← w.modular-tried.ensures, w.in-None.is)
+      | try_modular-else-has_modular_plan w ↦
+          c.go_on.ensures ∙ (λ i. exec build (rest_prog r (w.g-is i)) (w.left-is i).units (w.g-is i))
+          ∙ sym (try_stop a.value.0 a.width a.budget.units (rest_prog r) a.g.now c.if-budget-eq0.false (not-false _ (sym c.has_modular_plan.ensures ∙ w.if-has_modular_plan.false)))
     ]
 
 pub try_masked-returns-in_default : goal.try_masked-returns-in_default

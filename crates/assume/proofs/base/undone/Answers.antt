@@ -7,7 +7,7 @@ use borrow.Author.Rules.{rules}
 use Rattle.assume.proofs.base.undone.Goals as goal
 
 pub returns-then-not-is_sum : goal.returns-then-not-is_sum
-returns-then-not-is_sum c = sym (not_sum _ _ _ _ (sym c.is_sum.ensures ∙ not-true c.is_sum.result c.if-not-is_sum.true))
+returns-then-not-is_sum c = sym (not_sum _ _ _ _ (sym c.is_sum.ensures ∙ c.if-not-is_sum.true))
 
 pub returns-in-Bool : goal.returns-in-Bool
 unfolding undone
@@ -15,7 +15,7 @@ returns-in-Bool c = rw c.in-Bool.is
 
 pub returns-then-width-lt128 : goal.returns-then-width-lt128
 unfolding undone
-returns-then-width-lt128 c = rw (c.in-Bits.is, lt-ltb _ _ c.if-width-lt128.true, ← c.is_sum.ensures, not-false c.is_sum.result c.if-not-is_sum.false, c.ordered.ensures, c.undone_bits.ensures, c.undone_bits-then-width-lt128.ensures)
+returns-then-width-lt128 c = rw (c.in-Bits.is, lt-ltb _ _ c.if-width-lt128.true, ← c.is_sum.ensures, c.if-not-is_sum.false, c.ordered.ensures, c.undone_bits.ensures, c.undone_bits-then-width-lt128.ensures)
 
 pub returns-else-width-lt128 : goal.returns-else-width-lt128
 unfolding undone
@@ -23,4 +23,4 @@ returns-else-width-lt128 c = rw (c.in-Bits.is, le-ltb _ _ c.if-width-lt128.false
 
 pub returns-in-Integer : goal.returns-in-Integer
 unfolding undone
-returns-in-Integer c = rw (c.in-Integer.is, ← c.is_sum.ensures, not-false c.is_sum.result c.if-not-is_sum.false, c.between.ensures, c.undone_integer.ensures, c.undone_integer-in-Integer.ensures, c.as_signed-signed.ensures)
+returns-in-Integer c = rw (c.in-Integer.is, ← c.is_sum.ensures, c.if-not-is_sum.false, c.between.ensures, c.undone_integer.ensures, c.undone_integer-in-Integer.ensures, c.as_signed-signed.ensures)

@@ -19,19 +19,19 @@ pub refine_step-step-requires : goal.refine_step-step-requires
 refine_step-step-requires c = omega (arith, c.loop-left.invariant.1)
 
 pub shape_of-g-in-Unchanged : goal.shape_of-g-in-Unchanged
-shape_of-g-in-Unchanged c = c.refine_step-step.auto.0 ∙ c.loop-left.invariant.1
+shape_of-g-in-Unchanged c = c.refine_step-step.auto.g ∙ c.loop-left.invariant.1
 
 pub returns-in-Unchanged : goal.returns-in-Unchanged
 returns-in-Unchanged c = let e = rw c.in-Unchanged.is at c.refine_step-step.ensures in sym (c.loop-left.invariant.0 ∙ steps_on (c.loop-left.left - 1) c.loop-left.left _ _ _ _ _ _ (omega arith) c.resolve-target.ensures _ _ e)
 
 pub shape_of-g-in-Full : goal.shape_of-g-in-Full
-shape_of-g-in-Full c = c.refine_step-step.auto.0 ∙ c.loop-left.invariant.1
+shape_of-g-in-Full c = c.refine_step-step.auto.g ∙ c.loop-left.invariant.1
 
 pub returns-in-Full : goal.returns-in-Full
 returns-in-Full c = let e = rw c.in-Full.is at c.refine_step-step.ensures in sym (c.loop-left.invariant.0 ∙ steps_on (c.loop-left.left - 1) c.loop-left.left _ _ _ _ _ _ (omega arith) c.resolve-target.ensures _ _ e)
 
 pub shape_of-g-in_default : goal.shape_of-g-in_default
-shape_of-g-in_default c = c.refine_step-step.auto.0 ∙ c.loop-left.invariant.1
+shape_of-g-in_default c = c.refine_step-step.auto.g ∙ c.loop-left.invariant.1
 
 pub returns-in_default : goal.returns-in_default
 returns-in_default c = let e = rw (c.in-Narrowed.is, c.in_default.is) at c.refine_step-step.ensures in sym (c.loop-left.invariant.0 ∙ steps_on (c.loop-left.left - 1) c.loop-left.left _ _ _ _ _ _ (omega arith) c.resolve-target.ensures _ _ e)
@@ -43,7 +43,7 @@ pub loop-left-smaller : goal.loop-left-smaller
 loop-left-smaller c = omega arith
 
 pub loop-left-preserved : goal.loop-left-preserved
-loop-left-preserved c = let e = rw (c.in-Narrowed.is, c.in-Some.is) at c.refine_step-step.ensures in (c.loop-left.invariant.0 ∙ steps_on (c.loop-left.left - 1) c.loop-left.left _ _ _ _ _ _ (omega arith) c.resolve-target.ensures _ _ e ∙ ap (refine_up_to (c.loop-left.left - 1) narrowed _ _) (sym c.limited_to-wanted.ensures), c.refine_step-step.auto.0 ∙ c.loop-left.invariant.1)
+loop-left-preserved c = let e = rw (c.in-Narrowed.is, c.in-Some.is) at c.refine_step-step.ensures in (c.loop-left.invariant.0 ∙ steps_on (c.loop-left.left - 1) c.loop-left.left _ _ _ _ _ _ (omega arith) c.resolve-target.ensures _ _ e ∙ ap (refine_up_to (c.loop-left.left - 1) narrowed _ _) (sym c.limited_to-wanted.ensures), c.refine_step-step.auto.g ∙ c.loop-left.invariant.1)
 
 pub shape_of-g : goal.shape_of-g
 shape_of-g c = c.loop-left.invariant.1

@@ -1,5 +1,4 @@
 -- `Binary::code` meets its contract: one case for each operator.
-use borrow.Author.Rules.{rules}
 use Rattle.evaluate.proofs.Binary.code.Goals as goal
 
 pub returns-in-Add : goal.returns-in-Add

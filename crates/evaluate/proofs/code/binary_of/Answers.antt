@@ -4,6 +4,7 @@ use lib.ListN.{drop}
 use Rattle.evaluate.specs.Operator.{BINARY, binaries}
 use Rattle.evaluate.proofs.Codes.{first_code}
 use Rattle.evaluate.specs.declared.Binary.TheVariants as bi
+use borrow.Author.Rules.{rules}
 use Rattle.evaluate.proofs.code.binary_of.Goals as goal
 
 pub returns-in-21 : goal.returns-in-21
@@ -61,4 +62,4 @@ pub returns-in-38 : goal.returns-in-38
 returns-in-38 c = rw c.in-38.is
 
 pub returns-in_default : goal.returns-in_default
-returns-in_default c = sym (first_code bi.Add (drop 1 binaries) BINARY c.args.code c.in-21.rest)
+returns-in_default c = sym (first_code bi.Add (drop 1 binaries) BINARY c.args.code (search rules))

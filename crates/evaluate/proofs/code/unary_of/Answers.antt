@@ -4,6 +4,7 @@ use lib.ListN.{drop}
 use Rattle.evaluate.specs.Operator.{UNARY, unaries}
 use Rattle.evaluate.proofs.Codes.{first_code}
 use Rattle.evaluate.specs.declared.Unary.TheVariants as un
+use borrow.Author.Rules.{rules}
 use Rattle.evaluate.proofs.code.unary_of.Goals as goal
 
 pub returns-in-11 : goal.returns-in-11
@@ -25,4 +26,4 @@ pub returns-in-16 : goal.returns-in-16
 returns-in-16 c = rw c.in-16.is
 
 pub returns-in_default : goal.returns-in_default
-returns-in_default c = sym (first_code un.BoolNot (drop 1 (unaries c.args.width)) UNARY c.args.code c.in-11.rest)
+returns-in_default c = sym (first_code un.BoolNot (drop 1 (unaries c.args.width)) UNARY c.args.code (search rules))

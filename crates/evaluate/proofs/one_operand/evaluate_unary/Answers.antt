@@ -1,7 +1,6 @@
 -- `evaluate_unary` meets its contract: question 2, then the value.
 use Rattle.evaluate.specs.Answer.{evaluate_unary}
 use borrow.Author.Tests.{lt-leb, le-leb}
-use borrow.Author.Rules.{rules}
 use Rattle.evaluate.proofs.one_operand.evaluate_unary.Goals as goal
 
 pub returns-then-width-gt-WIDEST : goal.returns-then-width-gt-WIDEST

@@ -3,7 +3,6 @@ use Rattle.evaluate.specs.I128.{as_u128}
 use Rattle.word.specs.Value.{val}
 use borrow.Author.Tests.{eq-eqb, ne_eqb}
 use mathlib.Core.Path.{ap, ◌∙◌}
-use borrow.Author.Rules.{rules}
 use Rattle.evaluate.proofs.one_operand.sign_extend.Goals as goal
 
 pub returns-then-width-eq0 : goal.returns-then-width-eq0

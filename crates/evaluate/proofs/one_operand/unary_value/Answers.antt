@@ -4,7 +4,6 @@ use mathlib.Core.Path.{ap, ◌∙◌}
 use mathlib.Core.Option.{some}
 use Rattle.word.specs.Option.{from_bool}
 use Rattle.evaluate.specs.Evaluate.{unary_value}
-use borrow.Author.Rules.{rules}
 use Rattle.evaluate.proofs.one_operand.unary_value.Goals as goal
 
 pub returns-in-BoolNot : goal.returns-in-BoolNot

@@ -1,5 +1,4 @@
 -- `extended` meets its contract.
-use borrow.Author.Rules.{rules}
 use Rattle.evaluate.proofs.pattern.extended.Goals as goal
 
 pub returns : goal.returns

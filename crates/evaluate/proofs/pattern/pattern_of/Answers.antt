@@ -1,5 +1,4 @@
 -- `pattern_of` meets its contract.
-use borrow.Author.Rules.{rules}
 use Rattle.evaluate.proofs.pattern.pattern_of.Goals as goal
 
 pub returns-in-Some : goal.returns-in-Some

@@ -1,5 +1,4 @@
 -- `reduced` meets its contract, by the type.
-use borrow.Author.Rules.{rules}
 use Rattle.evaluate.proofs.pattern.reduced.Goals as goal
 
 pub returns-in-Bool : goal.returns-in-Bool

@@ -3,9 +3,8 @@ use Rattle.evaluate.proofs.Patterns.{low_digit}
 use Rattle.word.specs.Value.{val}
 use native.Mathlib.Omega.{arith}
 use native.Mathlib.Nat.{min-le_right, lt_of_le_of_lt}
-use Prim.Native.Nat.{min, ◌-◌, ◌^◌, ◌<◌}
+use Prim.Native.Nat.{◌-◌, ◌^◌, ◌<◌}
 use mathlib.Core.Path.{◌∙◌}
-use borrow.Author.Rules.{rules}
 use Rattle.evaluate.proofs.pattern.to_u32.Goals as goal
 
 pub returns : goal.returns

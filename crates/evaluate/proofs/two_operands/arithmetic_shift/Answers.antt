@@ -9,7 +9,6 @@ use borrow.Author.Tests.{eq-eqb, ne_eqb}
 use native.Mathlib.Omega.{arith}
 use Prim.Native.Nat.{min, ◌-◌, ◌^◌}
 use mathlib.Core.Path.{◌≡◌, ap, ◌∙◌}
-use borrow.Author.Rules.{rules}
 use Rattle.evaluate.proofs.two_operands.arithmetic_shift.Goals as goal
 
 pub returns-then-width-eq0 : goal.returns-then-width-eq0

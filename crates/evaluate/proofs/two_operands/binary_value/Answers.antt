@@ -1,6 +1,5 @@
 -- `binary_value` meets its contract: the operator's answer, reduced to the type.
 use Rattle.evaluate.specs.Evaluate.{binary_value}
-use borrow.Author.Rules.{rules}
 use Rattle.evaluate.proofs.two_operands.binary_value.Goals as goal
 
 pub returns-in-Some : goal.returns-in-Some

@@ -1,7 +1,6 @@
 -- `evaluate_binary` meets its contract: question 2, then the value.
 use Rattle.evaluate.specs.Answer.{evaluate_binary}
 use borrow.Author.Tests.{lt-leb, le-leb}
-use borrow.Author.Rules.{rules}
 use Rattle.evaluate.proofs.two_operands.evaluate_binary.Goals as goal
 
 pub returns-then-type_width-gt-WIDEST : goal.returns-then-type_width-gt-WIDEST

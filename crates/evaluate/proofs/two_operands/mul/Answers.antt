@@ -1,5 +1,4 @@
 -- `mul` meets its contract, by the type.
-use borrow.Author.Rules.{rules}
 use Rattle.evaluate.proofs.Answers.{by_type_lem}
 use Rattle.evaluate.proofs.two_operands.mul.Goals as goal
 

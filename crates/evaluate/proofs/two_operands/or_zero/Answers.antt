@@ -1,6 +1,5 @@
 -- `or_zero` meets its contract.
 use Rattle.word.specs.Value.{val}
-use borrow.Author.Rules.{rules}
 use Rattle.evaluate.proofs.two_operands.or_zero.Goals as goal
 
 pub returns-in-Some : goal.returns-in-Some

@@ -1,5 +1,4 @@
 -- `shift_left` meets its contract.
-use borrow.Author.Rules.{rules}
 use Rattle.evaluate.proofs.two_operands.shift_left.Goals as goal
 
 pub returns : goal.returns

@@ -1,5 +1,4 @@
 -- `unreduced` meets its contract: one case for each operator.
-use borrow.Author.Rules.{rules}
 use Rattle.evaluate.proofs.two_operands.unreduced.Goals as goal
 
 pub returns-in-Add : goal.returns-in-Add

@@ -8,12 +8,12 @@ use Rattle.graph.proofs.Tests.{zero_test}
 use Rattle.guard.proofs.matches.wide_compared.Goals as goal
 
 pub returns-then-not-is_comparison : goal.returns-then-not-is_comparison
-returns-then-not-is_comparison c = rw (← c.is_comparison.ensures, not-true c.is_comparison.result c.if-not-is_comparison.true)
+returns-then-not-is_comparison c = rw (← c.is_comparison.ensures, c.if-not-is_comparison.true)
 
 pub returns-in-Some : goal.returns-in-Some
 returns-in-Some c =
-    rw (← c.is_comparison.ensures, not-false c.is_comparison.result c.if-not-is_comparison.false, ← c.binary_value-value.ensures, c.in-Some.is)
+    rw (← c.is_comparison.ensures, c.if-not-is_comparison.false, ← c.binary_value-value.ensures, c.in-Some.is)
     (ap (λ (t : Bool). some (not t)) (c.is_zero.ensures ∙ zero_test (val c.in-Some.found)))
 
 pub returns-in-None : goal.returns-in-None
-returns-in-None c = rw (← c.is_comparison.ensures, not-false c.is_comparison.result c.if-not-is_comparison.false, ← c.binary_value-value.ensures, c.in-None.is)
+returns-in-None c = rw (← c.is_comparison.ensures, c.if-not-is_comparison.false, ← c.binary_value-value.ensures, c.in-None.is)

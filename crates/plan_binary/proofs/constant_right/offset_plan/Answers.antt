@@ -1,12 +1,11 @@
-use borrow.Author.Tests.{not-true, not-false}
 use borrow.Author.Rules.{rules}
 use Rattle.plan_binary.proofs.constant_right.offset_plan.Goals as goal
 
 pub returns-then-not-is_equality : goal.returns-then-not-is_equality
-returns-then-not-is_equality c = rw (← c.is_equality.ensures, not-true c.is_equality.result c.if-not-is_equality.true)
+returns-then-not-is_equality c = rw (← c.is_equality.ensures, c.if-not-is_equality.true)
 
 pub returns-in-Some : goal.returns-in-Some
-returns-in-Some c = rw (← c.is_equality.ensures, not-false c.is_equality.result c.if-not-is_equality.false, c.in-Some.is) c.offset_typed.ensures
+returns-in-Some c = rw (← c.is_equality.ensures, c.if-not-is_equality.false, c.in-Some.is) c.offset_typed.ensures
 
 pub returns-in-None : goal.returns-in-None
-returns-in-None c = rw (← c.is_equality.ensures, not-false c.is_equality.result c.if-not-is_equality.false, c.in-None.is)
+returns-in-None c = rw (← c.is_equality.ensures, c.if-not-is_equality.false, c.in-None.is)

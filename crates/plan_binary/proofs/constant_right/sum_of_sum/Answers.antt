@@ -1,28 +1,22 @@
-use mathlib.Core.Logic.{⊎_elim}
 use borrow.Author.Rules.{rules}
 use Rattle.plan_binary.proofs.constant_right.sum_of_sum.Goals as goal
+use Rattle.plan_binary.proofs.constant_right.sum_of_sum.Goals.{else-same_binary-via-then-same_binary+else-same_binary-2, else-same_binary-via-else-same_binary, else-same_binary-3-via-then-same_binary-3+else-same_binary-4, else-same_binary-3-via-else-same_binary-3}
 
 pub returns-then-same_binary-2 : goal.returns-then-same_binary-2
 returns-then-same_binary-2 c = rw (← c.same_binary.ensures, c.if-same_binary.true, ← c.same_binary-then-same_binary.ensures, c.if-same_binary-2.true, ← c.binary_value-sum.ensures, ← c.merged_plan.ensures)
 
 pub returns-then-same_binary-4 : goal.returns-then-same_binary-4
 returns-then-same_binary-4 c =
-    ⊎_elim
-    (λ w. rw (← c.same_binary.ensures, w.0.taken, ← w.1.ensures, w.2.left, ← c.same_binary-2.ensures, c.if-same_binary-3.true, ← c.same_binary-then-same_binary-3.ensures, c.if-same_binary-4.true, ← c.binary_value-sum.ensures) c.sub_of_sub.ensures)
-    (λ w. rw (← c.same_binary.ensures, w.left, ← c.same_binary-2.ensures, c.if-same_binary-3.true, ← c.same_binary-then-same_binary-3.ensures, c.if-same_binary-4.true, ← c.binary_value-sum.ensures) c.sub_of_sub.ensures)
-    c.if-same_binary.branch
+    elim c.else-same_binary.branch [
+      else-same_binary-via-then-same_binary+else-same_binary-2 w ↦ rw (← c.same_binary.ensures, w.if-same_binary.true, ← w.same_binary-then-same_binary.ensures, w.if-same_binary-2.false, ← c.same_binary-2.ensures, c.if-same_binary-3.true, ← c.same_binary-then-same_binary-3.ensures, c.if-same_binary-4.true, ← c.binary_value-sum.ensures) c.sub_of_sub.ensures
+    | else-same_binary-via-else-same_binary w ↦ rw (← c.same_binary.ensures, w.if-same_binary.false, ← c.same_binary-2.ensures, c.if-same_binary-3.true, ← c.same_binary-then-same_binary-3.ensures, c.if-same_binary-4.true, ← c.binary_value-sum.ensures) c.sub_of_sub.ensures
+    ]
 
 pub returns : goal.returns
 returns c =
-    ⊎_elim
-    (λ w.
-    ⊎_elim
-    (λ v. rw (← c.same_binary.ensures, w.0.taken, ← w.1.ensures, w.2.left, ← c.same_binary-2.ensures, v.0.taken, ← v.1.ensures, v.2.left))
-    (λ v. rw (← c.same_binary.ensures, w.0.taken, ← w.1.ensures, w.2.left, ← c.same_binary-2.ensures, v.left))
-    c.if-same_binary-3.branch)
-    (λ w.
-    ⊎_elim
-    (λ v. rw (← c.same_binary.ensures, w.left, ← c.same_binary-2.ensures, v.0.taken, ← v.1.ensures, v.2.left))
-    (λ v. rw (← c.same_binary.ensures, w.left, ← c.same_binary-2.ensures, v.left))
-    c.if-same_binary-3.branch)
-    c.if-same_binary.branch
+    elim c.else-same_binary.branch [
+      else-same_binary-via-then-same_binary+else-same_binary-2 w ↦
+      elim c.else-same_binary-3.branch [ else-same_binary-3-via-then-same_binary-3+else-same_binary-4 v ↦ rw (← c.same_binary.ensures, w.if-same_binary.true, ← w.same_binary-then-same_binary.ensures, w.if-same_binary-2.false, ← c.same_binary-2.ensures, v.if-same_binary-3.true, ← v.same_binary-then-same_binary-3.ensures, v.if-same_binary-4.false) | else-same_binary-3-via-else-same_binary-3 v ↦ rw (← c.same_binary.ensures, w.if-same_binary.true, ← w.same_binary-then-same_binary.ensures, w.if-same_binary-2.false, ← c.same_binary-2.ensures, v.if-same_binary-3.false) ]
+    | else-same_binary-via-else-same_binary w ↦
+      elim c.else-same_binary-3.branch [ else-same_binary-3-via-then-same_binary-3+else-same_binary-4 v ↦ rw (← c.same_binary.ensures, w.if-same_binary.false, ← c.same_binary-2.ensures, v.if-same_binary-3.true, ← v.same_binary-then-same_binary-3.ensures, v.if-same_binary-4.false) | else-same_binary-3-via-else-same_binary-3 v ↦ rw (← c.same_binary.ensures, w.if-same_binary.false, ← c.same_binary-2.ensures, v.if-same_binary-3.false) ]
+    ]

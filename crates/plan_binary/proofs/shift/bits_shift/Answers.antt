@@ -1,12 +1,11 @@
-use borrow.Author.Tests.{not-true, not-false}
 use borrow.Author.Rules.{rules}
 use Rattle.plan_binary.proofs.shift.bits_shift.Goals as goal
 
 pub returns-then-not-is_folded_shift : goal.returns-then-not-is_folded_shift
-returns-then-not-is_folded_shift c = rw (← c.is_folded_shift.ensures, not-true c.is_folded_shift.result c.if-not-is_folded_shift.true)
+returns-then-not-is_folded_shift c = rw (← c.is_folded_shift.ensures, c.if-not-is_folded_shift.true)
 
 pub returns-in-Some : goal.returns-in-Some
-returns-in-Some c = rw (← c.is_folded_shift.ensures, not-false c.is_folded_shift.result c.if-not-is_folded_shift.false, c.in-Some.is) c.shift_by.ensures
+returns-in-Some c = rw (← c.is_folded_shift.ensures, c.if-not-is_folded_shift.false, c.in-Some.is) c.shift_by.ensures
 
 pub returns-in-None : goal.returns-in-None
-returns-in-None c = rw (← c.is_folded_shift.ensures, not-false c.is_folded_shift.result c.if-not-is_folded_shift.false, c.in-None.is)
+returns-in-None c = rw (← c.is_folded_shift.ensures, c.if-not-is_folded_shift.false, c.in-None.is)

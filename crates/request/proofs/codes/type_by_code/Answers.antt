@@ -17,6 +17,3 @@ returns-then-width-eq0-2 c = simp (c.in-2.is, eq-eqb _ _ c.if-width-eq0-2.true)
 
 pub returns-else-width-eq0-2 : goal.returns-else-width-eq0-2
 returns-else-width-eq0-2 c = simp (c.in-2.is, ne_eqb _ _ c.if-width-eq0-2.false)
-
-pub returns-in_default : goal.returns-in_default
-returns-in_default c = rw (ne_eqb _ 0 c.in-0.rest.0.0.1, ne_eqb _ 1 c.in-0.rest.0.1, ne_eqb _ 2 c.in-0.rest.1)

@@ -10,8 +10,7 @@ use lib.ListN.{length}
 use Rattle.text.specs.Text.{placed}
 use Rattle.record.specs.Line.{LINE, nodes_line}
 use Rattle.record.proofs.Within.{placed-fits}
-use Rattle.record_vectors.proofs.put_count.Statement.{statement}
-use Rattle.record_vectors.proofs.put_count.Tie as tie
+use Rattle.record_vectors.proofs.put_count.Goals as goal
 
 -- a text that is put or not
 fits-if : (b : Bool) (out text after : List ℕ) (n : ℕ) → n ≡ cond b (length text) 0 → after ≡ cond b (placed out 0 text) out → length after ≡ length out
@@ -19,21 +18,9 @@ fits-if : (b : Bool) (out text after : List ℕ) (n : ℕ) → n ≡ cond b (len
 fits-if true out text after n e f same = omega (arith, placed-fits out text after f same)
 fits-if false out text after n e f same = omega arith
 
-count-requires : tie.Need-count-requires
-count-requires c κs = search rules
-
-put-nodes-requires : tie.Need-put-nodes-requires
-put-nodes-requires c κs = search rules
-
-same_length : tie.Need-same-length
-same_length c = search rules
-
-returns : tie.Need-returns
+pub returns : goal.returns
 returns c =
-    let line = c.before.before.before.before.before.before.before.args.line.now in
-    let call = c.before.before.put-nodes in
-    fits-if (leb LINE (length line)) line (nodes_line c.before.before.before.before.count.result) call.new.1.0 call.result call.ensures.0 call.ensures.1
-    call.auto.1.0
-
-pub put-count-spec : {M : Type 1} → statement M
-put-count-spec = tie.close (tie.spec count-requires put-nodes-requires same_length returns)
+    let line = c.args.line.now in
+    let call = c.put_nodes in
+    fits-if (leb LINE (length line)) line (nodes_line c.count.result) call.new.line call.result call.ensures.value call.ensures.line_after
+    call.auto.line

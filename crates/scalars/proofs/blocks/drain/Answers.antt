@@ -1,0 +1,10 @@
+use mathlib.Core.Path.{◌≡◌}
+use Prim.Native.Nat.{◌≤◌, ◌-◌}
+use borrow.Author.Rules.{rules}
+use native.Mathlib.Omega.{arith}
+use lib.ListN.{length}
+use Rattle.meaning.specs.Program.{Grown}
+use Rattle.scalars.proofs.blocks.drain.Goals as goal
+
+pub loop-stdout-preserved : goal.loop-stdout-preserved
+loop-stdout-preserved c = (search rules, omega arith, search rules, search rules, search rules)

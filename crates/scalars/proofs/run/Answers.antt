@@ -1,0 +1,12 @@
+use mathlib.Core.Path.{◌≡◌}
+use Prim.Native.Nat.{◌≤◌}
+use borrow.Author.Rules.{rules}
+use native.Mathlib.Omega.{arith}
+use lib.ListN.{length}
+use Rattle.meaning.specs.Program.{Grown}
+use Rattle.scalars.proofs.run.Goals as goal
+
+pub loop-turns-preserved : goal.loop-turns-preserved
+loop-turns-preserved c =
+    let filled = rw c.in-Reading.is at c.turn-state.ensures.fills in
+    (search rules, omega arith, search rules, search rules, search rules, search rules)
