@@ -1,5 +1,4 @@
 -- `read::node_at` meets its contract: its three parts.
-use borrow.Author.Rules.{rules}
 use Rattle.graph.proofs.read.node_at.Goals as goal
 
 pub returns : goal.returns

@@ -1,7 +1,6 @@
 -- `read::operation_at` meets its contract.
 use mathlib.Core.Path.{◌∙◌}
 use Rattle.graph.specs.Node.{operation_of}
-use borrow.Author.Rules.{rules}
 use Rattle.graph.proofs.read.operation_at.Goals as goal
 
 pub returns : goal.returns

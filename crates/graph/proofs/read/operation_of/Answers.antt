@@ -8,7 +8,6 @@ use Rattle.evaluate.specs.declared.Binary.{Binary}
 use Rattle.graph.specs.Node.{slice, concat, unary, binary}
 use Rattle.evaluate.specs.Operator.{BINARY, unary_of}
 use Rattle.graph.proofs.Codes.{operator}
-use borrow.Author.Rules.{rules}
 use Rattle.graph.proofs.read.operation_of.Goals as goal
 
 pub returns-in-0 : goal.returns-in-0
