@@ -5,12 +5,12 @@
 use evaluate::Binary;
 use graph::layout::REGION;
 use graph::{InputId, NodeId};
-use libc::STDOUT_FILENO;
 use mark::layout::MARKS;
 use mark::retain_nodes::retain;
 use mark::{MarkId, calls};
 use native::{Answer, by_name, reading};
 use range::{MaybeRange, ScalarType};
+use std::io;
 use word::Word;
 
 // An answer as one byte: a number below ten is its digit, Done is d, None and a refusal are n and r.
@@ -34,9 +34,9 @@ fn digit(number: u64) -> u8 {
     }
 }
 
-fn say(byte: u8) {
+fn say(rt: &impl Print, byte: u8) -> io::Result<()> {
     let line = [byte, b'\n'];
-    io::write_all(STDOUT_FILENO, &line);
+    rt.write_all(&line)
 }
 
 // Is input 0 below 5? The node of the question is 2 unless what is known decides it.
@@ -51,56 +51,59 @@ fn is_below(g: &mut [u64]) -> Answer {
 }
 
 // Nodes 0, 1 and 2: an input, a constant, and the question.
-fn begin(g: &mut [u64]) {
+fn begin(rt: &impl Print, g: &mut [u64]) -> io::Result<()> {
     let bits = ScalarType::Bits(8);
     let five = Word { lo: 5, hi: 0 };
-    say(letter(by_name::input(g, InputId(0), bits, MaybeRange::None)));
-    say(letter(by_name::constant(g, bits, five)));
-    say(letter(is_below(g)));
+    say(
+        rt,
+        letter(by_name::input(g, InputId(0), bits, MaybeRange::None)),
+    )?;
+    say(rt, letter(by_name::constant(g, bits, five)))?;
+    say(rt, letter(is_below(g)))
 }
 
-fn set_mark(g: &[u64], m: &mut [u64]) {
-    say(digit(calls::mark(g, m).number()));
+fn set_mark(rt: &impl Print, g: &[u64], m: &mut [u64]) -> io::Result<()> {
+    say(rt, digit(calls::mark(g, m).number()))
 }
 
-fn assume(g: &mut [u64]) {
-    say(letter(by_name::assume_guard(g, NodeId(2), true)));
+fn assume(rt: &impl Print, g: &mut [u64]) -> io::Result<()> {
+    say(rt, letter(by_name::assume_guard(g, NodeId(2), true)))
 }
 
-fn go_back(g: &mut [u64], m: &mut [u64]) {
-    say(letter(calls::return_to(g, m, MarkId(0))));
+fn go_back(rt: &impl Print, g: &mut [u64], m: &mut [u64]) -> io::Result<()> {
+    say(rt, letter(calls::return_to(g, m, MarkId(0))))
 }
 
-fn resolved(g: &[u64]) {
-    say(letter(reading::resolve(g, NodeId(0))));
+fn resolved(rt: &impl Print, g: &[u64]) -> io::Result<()> {
+    say(rt, letter(reading::resolve(g, NodeId(0))))
 }
 
 // In the arm the question is decided; after the return it is the node again.
-fn arm(g: &mut [u64], m: &mut [u64]) {
-    set_mark(g, m);
-    assume(g);
-    say(letter(is_below(g)));
-    go_back(g, m);
-    say(letter(is_below(g)));
+fn arm(rt: &impl Print, g: &mut [u64], m: &mut [u64]) -> io::Result<()> {
+    set_mark(rt, g, m)?;
+    assume(rt, g)?;
+    say(rt, letter(is_below(g)))?;
+    go_back(rt, g, m)?;
+    say(rt, letter(is_below(g)))
 }
 
 // A retain of all nodes clears the aliases and keeps the Refine, which the guard finds again.
-fn old_refine(g: &mut [u64], m: &mut [u64]) {
-    assume(g);
+fn old_refine(rt: &impl Print, g: &mut [u64], m: &mut [u64]) -> io::Result<()> {
+    assume(rt, g)?;
     let keep = [1u8; 4];
     let mut mapping = [0u64; 4];
-    say(digit(retain(g, m, &keep, &mut mapping).number()));
-    set_mark(g, m);
-    assume(g);
-    resolved(g);
-    go_back(g, m);
-    resolved(g);
+    say(rt, digit(retain(g, m, &keep, &mut mapping).number()))?;
+    set_mark(rt, g, m)?;
+    assume(rt, g)?;
+    resolved(rt, g)?;
+    go_back(rt, g, m)?;
+    resolved(rt, g)
 }
 
-fn main() {
+fn main(rt: HostRuntime) -> io::Result<()> {
     let mut g = [0u64; REGION];
     let mut m = [0u64; MARKS];
-    begin(&mut g);
-    arm(&mut g, &mut m);
-    old_refine(&mut g, &mut m);
+    begin(&rt, &mut g)?;
+    arm(&rt, &mut g, &mut m)?;
+    old_refine(&rt, &mut g, &mut m)
 }

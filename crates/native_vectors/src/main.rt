@@ -10,29 +10,32 @@ mod region;
 mod retains;
 
 use answers::put_answer_to;
-use libc::{STDIN_FILENO, STDOUT_FILENO};
+use std::io;
+use std::io::Read;
 
 // Replays a line, and answers whether there may be more. A line has 102 bytes, and an answer at most 72.
-fn replay_line(words: &mut [u64; 6402]) -> bool {
-    let mut line = [0u8; 102];
+fn replay_line(rt: &(impl Input + Print + Alloc), words: &mut [u64; 6402]) -> io::Result<bool> {
+    let mut line = Vec::new(rt.alloc());
     let mut out = [0u8; 72];
-    let n = io::read_full(STDIN_FILENO, &mut line);
+    let n = rt.reader().take(102).read_to_end(&mut line)?;
     if n != 102 {
-        return false;
+        return Ok(false);
     }
     let len = put_answer_to(&line, words, &mut out);
     if len == 0 {
-        return false;
+        return Ok(false);
     }
-    io::write_all(STDOUT_FILENO, &out[0..len])
+    rt.write_all(&out[0..len])?;
+    Ok(true)
 }
 
 // The words are the region's 6,145, one past its end, and 256 for the mapping of a retain.
 // A proved loop has to end: it counts its turns down, from a number that no run uses up.
-fn main() {
+fn main(rt: HostRuntime) -> io::Result<()> {
     let mut words = [0u64; 6402];
     let mut turns = u64::MAX;
-    while turns > 0 && replay_line(&mut words) {
+    while turns > 0 && replay_line(&rt, &mut words)? {
         turns -= 1;
     }
+    Ok(())
 }

@@ -1,4 +1,3 @@
-use borrow.Author.Rules.{rules}
 use Rattle.fold.proofs.compare.apart.Goals as goal
 
 pub returns-then-lt : goal.returns-then-lt

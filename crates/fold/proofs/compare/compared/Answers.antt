@@ -1,4 +1,3 @@
-use borrow.Author.Rules.{rules}
 use Rattle.fold.specs.Range.{comparison}
 use Rattle.fold.proofs.compare.compared.Goals as goal
 

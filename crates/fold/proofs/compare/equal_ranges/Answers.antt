@@ -1,4 +1,3 @@
-use borrow.Author.Rules.{rules}
 use Rattle.fold.proofs.compare.equal_ranges.Goals as goal
 use Rattle.fold.proofs.compare.equal_ranges.Goals.{else-eq-via-then-eq+else-eq-2, else-eq-via-else-eq}
 

@@ -1,4 +1,3 @@
-use borrow.Author.Rules.{rules}
 use Rattle.fold.proofs.compare.unsigned_too.Goals as goal
 
 pub returns-then-is_nonnegative : goal.returns-then-is_nonnegative

@@ -1,4 +1,3 @@
-use borrow.Author.Rules.{rules}
 use Rattle.fold.specs.Range.{binary_range}
 use Rattle.fold.proofs.new_range.binary_range.Goals as goal
 

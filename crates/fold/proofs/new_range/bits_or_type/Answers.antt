@@ -1,4 +1,3 @@
-use borrow.Author.Rules.{rules}
 use Rattle.fold.proofs.new_range.bits_or_type.Goals as goal
 
 pub returns-in-Some : goal.returns-in-Some

@@ -1,4 +1,3 @@
-use borrow.Author.Rules.{rules}
 use Rattle.fold.proofs.new_range.extended_range.Goals as goal
 
 pub returns-in-Integer : goal.returns-in-Integer

@@ -1,4 +1,3 @@
-use borrow.Author.Rules.{rules}
 use Rattle.fold.specs.Range.{integer_rule}
 use Rattle.fold.proofs.new_range.integer_range.Goals as goal
 

@@ -1,4 +1,3 @@
-use borrow.Author.Rules.{rules}
 use Rattle.fold.proofs.new_range.negated.Goals as goal
 
 pub returns-in-Some-negative : goal.returns-in-Some-negative

@@ -1,4 +1,3 @@
-use borrow.Author.Rules.{rules}
 use Rattle.fold.specs.Range.{bits_rule}
 use Rattle.fold.proofs.new_range.refined.Goals as goal
 

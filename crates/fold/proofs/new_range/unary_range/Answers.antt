@@ -1,4 +1,3 @@
-use borrow.Author.Rules.{rules}
 use Rattle.fold.specs.Range.{unary_range}
 use Rattle.fold.proofs.new_range.unary_range.Goals as goal
 

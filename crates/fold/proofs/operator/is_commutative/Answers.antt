@@ -1,4 +1,3 @@
-use borrow.Author.Rules.{rules}
 use Rattle.fold.proofs.operator.is_commutative.Goals as goal
 
 pub returns-then-same_binary : goal.returns-then-same_binary

@@ -1,4 +1,3 @@
-use borrow.Author.Rules.{rules}
 use Rattle.fold.proofs.operator.same_binary.Goals as goal
 
 pub returns : goal.returns

@@ -1,4 +1,3 @@
-use borrow.Author.Rules.{rules}
 use Rattle.fold.specs.Shape.{by_constant_at}
 use Rattle.fold.proofs.shape.by_constant_at.Goals as goal
 

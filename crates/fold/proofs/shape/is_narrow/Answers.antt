@@ -1,4 +1,3 @@
-use borrow.Author.Rules.{rules}
 use Rattle.fold.proofs.shape.is_narrow.Goals as goal
 
 pub returns-in-Bits : goal.returns-in-Bits

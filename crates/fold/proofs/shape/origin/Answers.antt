@@ -1,7 +1,6 @@
 use mathlib.Core.Path.{◌≡◌, refl, sym, ap, ◌∙◌}
 use Prim.Native.Nat.{ℕ, suc, ◌-◌}
 use native.Mathlib.Omega.{arith}
-use borrow.Author.Rules.{rules}
 use Rattle.fold.specs.Shape.{id_of, down, origin}
 use Rattle.fold.proofs.Laws.{down_end, down_on}
 use Rattle.fold.proofs.shape.origin.Goals as goal

@@ -1,9 +1,5 @@
-use mathlib.Core.Path.{◌≡◌, refl, sym, ap, ◌∙◌}
-use Prim.Native.Nat.{ℕ, suc, ◌-◌}
-use native.Mathlib.Omega.{arith}
-use borrow.Author.Rules.{rules}
-use Rattle.fold.specs.Shape.{id_of, down, origin}
-use Rattle.fold.proofs.Laws.{down_end, down_on}
+use mathlib.Core.Path.{◌≡◌}
+use Rattle.fold.specs.Shape.{down, origin}
 use Rattle.fold.proofs.shape.origin.Given as goal
 
 abbrev pub invariant-loop-left : goal.invariant-loop-left

@@ -1,4 +1,3 @@
-use borrow.Author.Rules.{rules}
 use Rattle.fold.specs.Shape.{refined_at}
 use Rattle.fold.proofs.shape.refined_at.Goals as goal
 

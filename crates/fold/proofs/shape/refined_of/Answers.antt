@@ -1,4 +1,3 @@
-use borrow.Author.Rules.{rules}
 use Rattle.fold.proofs.shape.refined_of.Goals as goal
 
 pub returns-in-Refine : goal.returns-in-Refine

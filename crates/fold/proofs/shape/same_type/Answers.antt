@@ -1,4 +1,3 @@
-use borrow.Author.Rules.{rules}
 use Rattle.fold.proofs.shape.same_type.Goals as goal
 
 pub returns-in-Bits-b-2 : goal.returns-in-Bits-b-2

@@ -9,12 +9,6 @@ use Rattle.mark.proofs.moving.go_back.Goals as goal
 pub count-now-requires : goal.count-now-requires
 count-now-requires c = (graph_facts _ c.requires.0).length
 
--- no goal slice-bounds-restore-to-start
--- part-restore-to-start c = search rules
-
--- no goal slice-bounds-restore-to-end
--- part-restore-to-end c = search rules
-
 pub restore_to-requires : goal.restore_to-requires
 restore_to-requires c =
     let f = graph_facts c.args.g.now c.requires.0 in

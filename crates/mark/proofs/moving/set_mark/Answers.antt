@@ -13,12 +13,6 @@ use Rattle.mark.proofs.moving.set_mark.Goals as goal
 pub bounds-m-at : goal.bounds-m-at
 bounds-m-at c = simp length-set (omega arith)
 
--- no goal slice-bounds-save-aliases-start
--- part-save-aliases-start c = search rules
-
--- no goal slice-bounds-save-aliases-end
--- part-save-aliases-end c = simp length-set (omega arith)
-
 pub shape_of-m : goal.shape_of-m
 shape_of-m c =
     let a = c.args in

@@ -6,11 +6,5 @@ use Rattle.mark.proofs.well_formed.is_mark.Goals as goal
 pub returns-then-limit-nodes : goal.returns-then-limit-nodes
 returns-then-limit-nodes c = rw (lt-leb _ _ c.if-limit-nodes.true)
 
--- no goal slice-bounds-are-aliases-start
--- part-are-aliases-start c = search rules
-
--- no goal slice-bounds-are-aliases-end
--- part-are-aliases-end c = search rules
-
 pub returns : goal.returns
 returns c = rw (le-leb _ _ c.if-limit-nodes.false) (rw add-sub_cancel_left at c.are_aliases.ensures)

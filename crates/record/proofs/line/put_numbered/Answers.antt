@@ -22,4 +22,8 @@ returns c =
     let n = c.args.number in
     let low : n < 2 ^ 64 = search rules in
     let digits = digits_64 n low in
-    numbered-put c.args.line.now c.args.word.now n (omega arith) c.put_text_in_room-after.ensures c.put_decimal_in_room-end.ensures c.put_text_in_room.ensures
+    let a = c.put_text_in_room-after.ensures in
+    let b = c.put_decimal_in_room-end.ensures in
+    let e = c.put_text_in_room.ensures in
+    let p = numbered-put c.args.line.now c.args.word.now n (omega arith) (a.value, a.out_after) (b.value, b.out_after) (e.value, e.out_after) in
+    record { value = p.0; line_after = p.1 }

@@ -17,7 +17,7 @@ unfolding record_call
 returns-then-line-lt-LINE c = rw (lt-leb _ _ c.if-line-lt-LINE.true)
 
 pub returns-then-is_record : goal.returns-then-is_record
-returns-then-is_record c = record_refused _ _ _ _ (sym c.is_graph.ensures ∙ c.if-is_graph.false) (sym c.is_record.ensures ∙ c.if-is_record.true) c.if-line-lt-LINE.false c.put_refusal.ensures
+returns-then-is_record c = record_refused _ _ _ _ (sym c.is_graph.ensures ∙ c.if-is_graph.false) (sym c.is_record.ensures ∙ c.if-is_record.true) c.if-line-lt-LINE.false (c.put_refusal.ensures.value, c.put_refusal.ensures.line_after)
 
 pub returns-else-is_record : goal.returns-else-is_record
-returns-else-is_record c = record_bad _ _ _ _ (sym c.is_record.ensures ∙ c.if-is_record.false) c.if-line-lt-LINE.false c.put_bad.ensures
+returns-else-is_record c = record_bad _ _ _ _ (sym c.is_record.ensures ∙ c.if-is_record.false) c.if-line-lt-LINE.false (c.put_bad.ensures.value, c.put_bad.ensures.line_after)

@@ -23,4 +23,4 @@ pub returns-in-None : goal.returns-in-None
 unfolding record_in_graph effect_in_graph asked done_by
 returns-in-None c =
     rw (le-leb _ _ c.if-line-lt-LINE.false, ← c.tag_in-tag.ensures, c.in-None.is)
-    (bad_step c.args.line.now c.args.g.now c.args.mapping.now c.put_bad.ensures)
+    (bad_step c.args.line.now c.args.g.now c.args.mapping.now (c.put_bad.ensures.value, c.put_bad.ensures.line_after))

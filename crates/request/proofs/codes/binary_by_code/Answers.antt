@@ -1,4 +1,3 @@
-use borrow.Author.Rules.{rules}
 use Rattle.request.proofs.codes.binary_by_code.Goals as goal
 
 pub returns-then-is_binary_code : goal.returns-then-is_binary_code

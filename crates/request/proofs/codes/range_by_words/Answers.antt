@@ -1,6 +1,5 @@
 -- `range_by_words` meets its contract.
 use borrow.Author.Tests.{eq-eqb, ne_eqb}
-use borrow.Author.Rules.{rules}
 use Rattle.request.proofs.codes.range_by_words.Goals as goal
 
 pub returns-then-flag-eq0 : goal.returns-then-flag-eq0

@@ -1,6 +1,5 @@
 -- `type_by_code` meets its contract: one case for each code.
 use borrow.Author.Tests.{eq-eqb, ne_eqb}
-use borrow.Author.Rules.{rules}
 use Rattle.request.proofs.codes.type_by_code.Goals as goal
 
 pub returns-then-width-eq0 : goal.returns-then-width-eq0

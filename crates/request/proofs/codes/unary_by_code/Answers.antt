@@ -1,4 +1,3 @@
-use borrow.Author.Rules.{rules}
 use Rattle.request.proofs.codes.unary_by_code.Goals as goal
 
 pub returns-then-is_unary_code : goal.returns-then-is_unary_code

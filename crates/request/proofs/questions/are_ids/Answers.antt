@@ -1,4 +1,3 @@
-use borrow.Author.Rules.{rules}
 use Rattle.request.proofs.questions.are_ids.Goals as goal
 
 pub returns-in-Unary : goal.returns-in-Unary

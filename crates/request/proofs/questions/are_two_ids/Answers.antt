@@ -1,5 +1,4 @@
 use borrow.Author.Tests.{lt-ltb, le-ltb}
-use borrow.Author.Rules.{rules}
 use Rattle.request.proofs.questions.are_two_ids.Goals as goal
 
 pub returns-then-first-nodes : goal.returns-then-first-nodes

@@ -1,5 +1,4 @@
 use borrow.Author.Tests.{le-leb, lt-leb}
-use borrow.Author.Rules.{rules}
 use Rattle.request.proofs.questions.are_two_widths.Goals as goal
 
 pub returns-then-first-le-WIDEST : goal.returns-then-first-le-WIDEST

@@ -1,4 +1,3 @@
-use borrow.Author.Rules.{rules}
 use Rattle.request.proofs.questions.are_widths.Goals as goal
 
 pub returns-in-Constant : goal.returns-in-Constant

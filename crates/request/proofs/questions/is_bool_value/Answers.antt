@@ -1,6 +1,5 @@
 -- `is_bool_value` meets its contract.
 use Rattle.word.specs.Value.{val}
-use borrow.Author.Rules.{rules}
 use Rattle.request.proofs.questions.is_bool_value.Goals as goal
 
 pub returns-in-Bool : goal.returns-in-Bool

@@ -1,5 +1,4 @@
 -- `is_declared` meets its contract.
-use borrow.Author.Rules.{rules}
 use Rattle.request.proofs.questions.is_range_of.Goals as goal
 
 pub returns-then-le : goal.returns-then-le

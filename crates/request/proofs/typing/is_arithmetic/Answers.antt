@@ -1,4 +1,3 @@
-use borrow.Author.Rules.{rules}
 use Rattle.request.proofs.typing.is_arithmetic.Goals as goal
 
 pub returns-then-is_number : goal.returns-then-is_number

@@ -1,4 +1,3 @@
-use borrow.Author.Rules.{rules}
 use Rattle.request.proofs.typing.is_binary_typed.Goals as goal
 
 pub returns-then-is_bitwise : goal.returns-then-is_bitwise

@@ -1,4 +1,3 @@
-use borrow.Author.Rules.{rules}
 use Rattle.request.proofs.typing.is_bits_to_same.Goals as goal
 
 pub returns-then-is_bits : goal.returns-then-is_bits

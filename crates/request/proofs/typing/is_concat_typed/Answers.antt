@@ -1,5 +1,4 @@
 use borrow.Author.Tests.{le-leb, lt-leb}
-use borrow.Author.Rules.{rules}
 use Rattle.request.proofs.typing.is_concat_typed.Goals as goal
 
 pub returns-then-width-low_width : goal.returns-then-width-low_width

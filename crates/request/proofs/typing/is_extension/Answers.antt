@@ -1,4 +1,3 @@
-use borrow.Author.Rules.{rules}
 use Rattle.request.proofs.typing.is_extension.Goals as goal
 
 pub returns-in-Bits : goal.returns-in-Bits

@@ -1,4 +1,3 @@
-use borrow.Author.Rules.{rules}
 use Rattle.request.proofs.typing.is_unary_typed.Goals as goal
 
 pub returns-in-BoolNot : goal.returns-in-BoolNot
