@@ -1,7 +1,7 @@
 -- Laws of the walk down a chain of Refines to a type, one step each, and of what the test for None tells.
 use mathlib.Core.Path.{◌≡◌, refl}
 use mathlib.Core.Bool.{true, false, false≢true}
-use mathlib.Core.List.{List, [], ◌∷◌}
+use mathlib.Core.List.{List}
 use mathlib.Core.Option.{none, some}
 use Prim.Native.Nat.{ℕ, zero, suc}
 use Rattle.range.specs.declared.ScalarType.{ScalarType}

@@ -1,6 +1,5 @@
 -- The builders and what they call meet their contracts: one cycle of calls. The measure is eight times the units left, and more where a function calls on before it spends one.
 use Rattle.std.proofs.Common.{arith, sym, ap, ◌∙◌, length}
-use borrow.Author.Tests.{not-false}
 use Rattle.build.specs.Build.{exec, build}
 use Rattle.build.specs.Step.{rest_prog}
 use Rattle.build.specs.declared.Budget.{Budget}
@@ -65,7 +64,7 @@ try_modular-returns t c =
       | try_modular-then-has_modular_plan+in-None w ↦ c.go_on.ensures ∙ (λ i. exec build (rest_prog r (w.g-is i)) (w.left-is i).units (w.g-is i)) ∙ rw (on_out-tail, ← w.modular-tried.ensures, w.in-None.is)
       | try_modular-else-has_modular_plan w ↦
           c.go_on.ensures ∙ (λ i. exec build (rest_prog r (w.g-is i)) (w.left-is i).units (w.g-is i))
-          ∙ sym (try_stop a.value.0 a.width a.budget.units (rest_prog r) a.g.now c.if-budget-eq0.false (not-false _ (sym c.has_modular_plan.ensures ∙ w.if-has_modular_plan.false)))
+          ∙ sym (try_stop a.value.0 a.width a.budget.units (rest_prog r) a.g.now c.if-budget-eq0.false (grind arith))
     ]
 
 pub try_masked-returns-in_default : goal.try_masked-returns-in_default

@@ -1,4 +1,3 @@
-use borrow.Author.Rules.{rules}
 use Rattle.bitfield.proofs.bits.binary_bit.Goals as goal
 
 pub returns-in-Some : goal.returns-in-Some

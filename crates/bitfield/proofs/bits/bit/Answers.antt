@@ -1,7 +1,6 @@
 use mathlib.Core.Path.{◌≡◌, refl, sym, ap, ◌∙◌}
 use Prim.Native.Nat.{ℕ, ◌-◌}
 use native.Mathlib.Omega.{arith}
-use borrow.Author.Rules.{rules}
 use Rattle.bitfield.specs.Bitfield.{bit_at, step_of}
 use Rattle.bitfield.specs.Turns.{turned_by}
 use Rattle.bitfield.proofs.Laws.{bit-reached, turned_more, turned_none}

@@ -1,11 +1,7 @@
 -- `bits::bit` meets its contract. The loop's invariant: the bit is that of the node reached by the steps left, after the turns so far. The measure is `steps`.
-use mathlib.Core.Path.{◌≡◌, refl, sym, ap, ◌∙◌}
-use Prim.Native.Nat.{ℕ, ◌-◌}
-use native.Mathlib.Omega.{arith}
-use borrow.Author.Rules.{rules}
-use Rattle.bitfield.specs.Bitfield.{bit_at, step_of}
+use mathlib.Core.Path.{◌≡◌}
+use Rattle.bitfield.specs.Bitfield.{bit_at}
 use Rattle.bitfield.specs.Turns.{turned_by}
-use Rattle.bitfield.proofs.Laws.{bit-reached, turned_more, turned_none}
 use Rattle.bitfield.proofs.bits.bit.Given as goal
 
 abbrev pub invariant-loop-steps : goal.invariant-loop-steps

@@ -1,5 +1,4 @@
 use borrow.Author.Tests.{le-leb, lt-leb, lt-ltb}
-use borrow.Author.Rules.{rules}
 use Rattle.bitfield.specs.Bitfield.{bit_step}
 use Rattle.bitfield.proofs.bits.bit_step.Goals as goal
 

@@ -1,5 +1,4 @@
 use native.Mathlib.Nat.{mod-eq_of_lt}
-use borrow.Author.Rules.{rules}
 use Rattle.bitfield.proofs.bits.has_bit.Goals as goal
 
 pub returns : goal.returns

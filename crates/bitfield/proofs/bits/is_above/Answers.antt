@@ -1,4 +1,3 @@
-use borrow.Author.Rules.{rules}
 use Rattle.bitfield.proofs.bits.is_above.Goals as goal
 
 pub returns-in-Bits : goal.returns-in-Bits

@@ -1,4 +1,3 @@
-use borrow.Author.Rules.{rules}
 use Rattle.bitfield.proofs.bits.negated_bit.Goals as goal
 
 pub returns-in-Known : goal.returns-in-Known

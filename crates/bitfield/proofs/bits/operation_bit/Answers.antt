@@ -1,5 +1,4 @@
 use borrow.Author.Tests.{le-leb, lt-leb, lt-ltb, le-ltb}
-use borrow.Author.Rules.{rules}
 use Rattle.bitfield.proofs.bits.operation_bit.Goals as goal
 
 pub returns-in-Constant : goal.returns-in-Constant

@@ -1,5 +1,4 @@
 use borrow.Author.Tests.{lt-ltb, le-ltb}
-use borrow.Author.Rules.{rules}
 use Rattle.bitfield.proofs.bits.unary_bit.Goals as goal
 
 pub returns-in-BoolNot : goal.returns-in-BoolNot

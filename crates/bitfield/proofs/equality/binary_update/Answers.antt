@@ -1,4 +1,3 @@
-use borrow.Author.Rules.{rules}
 use Rattle.bitfield.proofs.equality.binary_update.Goals as goal
 
 pub returns-then-not-same_binary : goal.returns-then-not-same_binary

@@ -1,4 +1,3 @@
-use borrow.Author.Rules.{rules}
 use Rattle.bitfield.proofs.equality.changed_bits.Goals as goal
 
 pub returns : goal.returns

@@ -1,5 +1,4 @@
 use mathlib.Core.Path.{sym, ◌∙◌}
-use borrow.Author.Rules.{rules}
 use Rattle.bitfield.specs.Bitfield.{fold_masked_comparison}
 use Rattle.bitfield.proofs.Unmasked.{unmasked}
 use Rattle.bitfield.proofs.equality.fold_masked_comparison.Goals as goal

@@ -1,4 +1,3 @@
-use borrow.Author.Rules.{rules}
 use Rattle.bitfield.specs.Bitfield.{fold_pair}
 use Rattle.bitfield.proofs.equality.fold_pair.Goals as goal
 

@@ -1,4 +1,3 @@
-use borrow.Author.Rules.{rules}
 use Rattle.bitfield.proofs.equality.fold_pair_of_bits.Goals as goal
 
 pub returns-then-not-same_type : goal.returns-then-not-same_type

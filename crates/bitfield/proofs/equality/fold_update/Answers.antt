@@ -1,4 +1,3 @@
-use borrow.Author.Rules.{rules}
 use Rattle.bitfield.proofs.equality.fold_update.Goals as goal
 
 pub returns-in_default : goal.returns-in_default

@@ -1,4 +1,3 @@
-use borrow.Author.Rules.{rules}
 use Rattle.bitfield.proofs.equality.found_in.Goals as goal
 
 pub returns-in-Found : goal.returns-in-Found

@@ -3,7 +3,6 @@ use mathlib.Core.Path.{ap}
 use Prim.Native.Nat.{ℕ}
 use lib.Dec.{ltb}
 use Rattle.evaluate.specs.Operator.{BINARY}
-use borrow.Author.Rules.{rules}
 use Rattle.bitfield.proofs.equality.is_not_binary.Goals as goal
 
 pub returns : goal.returns

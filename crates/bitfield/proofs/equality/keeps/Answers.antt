@@ -1,5 +1,4 @@
 use borrow.Author.Tests.{eq-eqb, ne_eqb}
-use borrow.Author.Rules.{rules}
 use Rattle.word.specs.Value.{val}
 use Rattle.graph.proofs.Tests.{zero_test}
 use Rattle.bitfield.proofs.equality.keeps.Goals as goal

@@ -1,4 +1,3 @@
-use borrow.Author.Rules.{rules}
 use Rattle.bitfield.specs.Bitfield.{update_at}
 use Rattle.bitfield.proofs.equality.update_at.Goals as goal
 

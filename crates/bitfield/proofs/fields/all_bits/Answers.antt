@@ -1,14 +1,13 @@
 use mathlib.Core.Path.{◌≡◌, sym, ap, ◌∙◌}
 use mathlib.Core.Option.{some}
-use Prim.Native.Nat.{ℕ, suc, ◌+◌, ◌-◌, ◌≤◌}
+use Prim.Native.Nat.{ℕ, suc, ◌+◌, ◌-◌}
 use native.Mathlib.Numerals.{unary_clauses}
 use native.Mathlib.Omega.{arith}
-use borrow.Author.Rules.{rules}
 use lib.Bits.{bit_or}
 use Rattle.word.specs.Value.{val}
 use Rattle.fold.specs.Shape.{id_of}
 use Rattle.bitfield.specs.declared.Bit as declared
-use Rattle.bitfield.specs.Bitfield.{maybe_bit_of, one_bit_of, no_bits, field_from}
+use Rattle.bitfield.specs.Bitfield.{maybe_bit_of, one_bit_of, field_from}
 use Rattle.bitfield.proofs.Laws.{field-none, field_known, field_own, field_other}
 use Rattle.bitfield.proofs.fields.all_bits.Goals as goal
 

@@ -1,16 +1,9 @@
 -- `fields::all_bits` meets its contract. The loop's invariant: the fold is that of the bits left on the base, mask and literal so far. The measure is the number of bits left.
-use mathlib.Core.Path.{◌≡◌, sym, ap, ◌∙◌}
-use mathlib.Core.Option.{some}
-use Prim.Native.Nat.{ℕ, suc, ◌+◌, ◌-◌, ◌≤◌}
-use native.Mathlib.Numerals.{unary_clauses}
-use native.Mathlib.Omega.{arith}
-use borrow.Author.Rules.{rules}
-use lib.Bits.{bit_or}
+use mathlib.Core.Path.{◌≡◌}
+use Prim.Native.Nat.{◌-◌, ◌≤◌}
 use Rattle.word.specs.Value.{val}
 use Rattle.fold.specs.Shape.{id_of}
-use Rattle.bitfield.specs.declared.Bit as declared
-use Rattle.bitfield.specs.Bitfield.{maybe_bit_of, one_bit_of, no_bits, field_from}
-use Rattle.bitfield.proofs.Laws.{field-none, field_known, field_own, field_other}
+use Rattle.bitfield.specs.Bitfield.{no_bits, field_from}
 use Rattle.bitfield.proofs.fields.all_bits.Given as goal
 
 abbrev pub invariant-loop-index : goal.invariant-loop-index

@@ -1,5 +1,4 @@
 use borrow.Author.Tests.{lt-ltb, le-ltb}
-use borrow.Author.Rules.{rules}
 use Rattle.bitfield.proofs.fields.concat_bit.Goals as goal
 
 pub returns-then-index-low_width : goal.returns-then-index-low_width

@@ -1,6 +1,5 @@
 -- `fields::fold_bitfield_concat` meets its contract. Where the early test rules the fold out, `all_bits` would find no field.
 use mathlib.Core.Path.{sym, ◌∙◌}
-use borrow.Author.Rules.{rules}
 use Rattle.bitfield.specs.Bitfield.{fold_bitfield_concat}
 use Rattle.bitfield.proofs.Laws.{ruled-out}
 use Rattle.bitfield.proofs.fields.fold_bitfield_concat.Goals as goal

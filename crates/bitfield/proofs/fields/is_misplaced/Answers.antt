@@ -1,5 +1,4 @@
 -- `fields::is_misplaced` meets its contract, by cases.
-use borrow.Author.Rules.{rules}
 use Rattle.bitfield.proofs.fields.is_misplaced.Goals as goal
 
 pub returns-in-Source : goal.returns-in-Source

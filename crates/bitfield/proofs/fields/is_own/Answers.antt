@@ -1,6 +1,5 @@
 -- `fields::is_own` meets its contract.
 use borrow.Author.Tests.{eq-eqb, ne_eqb}
-use borrow.Author.Rules.{rules}
 use Rattle.bitfield.proofs.fields.is_own.Goals as goal
 
 pub returns-then-source-index : goal.returns-then-source-index

@@ -1,5 +1,4 @@
 -- `fields::is_ruled_out` meets its contract.
-use borrow.Author.Rules.{rules}
 use borrow.Author.Tests.{lt-ltb, le-ltb}
 use Rattle.bitfield.proofs.fields.is_ruled_out.Goals as goal
 

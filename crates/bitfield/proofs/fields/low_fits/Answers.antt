@@ -1,4 +1,3 @@
-use borrow.Author.Rules.{rules}
 use Rattle.bitfield.proofs.fields.low_fits.Goals as goal
 
 pub returns-then-is_narrow : goal.returns-then-is_narrow

@@ -1,6 +1,5 @@
 use mathlib.Core.Path.{◌∙◌}
 use native.Mathlib.Nat.{one-mul}
-use borrow.Author.Rules.{rules}
 use Rattle.word.proofs.Products.{val_low}
 use Rattle.bitfield.proofs.fields.power.Goals as goal
 

@@ -1,5 +1,4 @@
 -- `fields::with_known` meets its contract, by cases.
-use borrow.Author.Rules.{rules}
 use Rattle.bitfield.proofs.fields.with_known.Goals as goal
 
 pub returns-then-value : goal.returns-then-value

@@ -1,6 +1,5 @@
 use mathlib.Core.Path.{◌∙◌}
 use native.Mathlib.Omega.{arith}
-use borrow.Author.Rules.{rules}
 use Rattle.graph.proofs.Codes.{halves}
 use Rattle.guard.specs.Guard.{host_compared}
 use Rattle.guard.proofs.Guard.compared.Goals as goal

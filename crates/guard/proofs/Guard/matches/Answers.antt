@@ -1,4 +1,3 @@
-use borrow.Author.Rules.{rules}
 use Rattle.guard.specs.Guard.{matches_call, matched}
 use Rattle.guard.proofs.Guard.matches.Goals as goal
 

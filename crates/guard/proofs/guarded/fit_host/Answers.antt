@@ -1,4 +1,3 @@
-use borrow.Author.Rules.{rules}
 use Rattle.guard.proofs.guarded.fit_host.Goals as goal
 
 pub returns-then-fits : goal.returns-then-fits

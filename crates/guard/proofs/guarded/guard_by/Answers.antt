@@ -1,4 +1,3 @@
-use borrow.Author.Rules.{rules}
 use Rattle.guard.proofs.guarded.guard_by.Goals as goal
 
 pub returns-then-host : goal.returns-then-host

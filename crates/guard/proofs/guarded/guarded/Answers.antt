@@ -1,4 +1,3 @@
-use borrow.Author.Rules.{rules}
 use Rattle.guard.specs.Guard.{guarded}
 use Rattle.guard.proofs.guarded.guarded.Goals as goal
 

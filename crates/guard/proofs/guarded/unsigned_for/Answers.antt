@@ -1,4 +1,3 @@
-use borrow.Author.Rules.{rules}
 use Rattle.guard.proofs.guarded.unsigned_for.Goals as goal
 
 pub returns-then-same_binary : goal.returns-then-same_binary

@@ -1,8 +1,6 @@
 use mathlib.Core.Path.{ap, ◌∙◌}
 use mathlib.Core.Bool.{Bool, not}
 use mathlib.Core.Option.{some}
-use borrow.Author.Rules.{rules}
-use borrow.Author.Tests.{not-true, not-false}
 use Rattle.word.specs.Value.{val}
 use Rattle.graph.proofs.Tests.{zero_test}
 use Rattle.guard.proofs.matches.wide_compared.Goals as goal

@@ -1,10 +1,5 @@
-use mathlib.Core.Path.{◌≡◌, refl, sym, ap, ◌∙◌}
-use Prim.Native.Nat.{ℕ, suc, ◌-◌}
-use native.Mathlib.Omega.{arith}
-use borrow.Author.Rules.{rules}
-use Rattle.fold.specs.Shape.{id_of}
+use mathlib.Core.Path.{◌≡◌}
 use Rattle.guard.specs.Condition.{behind, behind_nots}
-use Rattle.guard.proofs.Laws.{behind_end, behind_on}
 use Rattle.guard.proofs.reading.behind_nots.Given as goal
 
 abbrev pub invariant-loop-left : goal.invariant-loop-left

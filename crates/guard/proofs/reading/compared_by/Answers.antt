@@ -1,4 +1,3 @@
-use borrow.Author.Rules.{rules}
 use Rattle.guard.proofs.reading.compared_by.Goals as goal
 
 pub returns-then-is_comparison : goal.returns-then-is_comparison

@@ -1,4 +1,3 @@
-use borrow.Author.Rules.{rules}
 use Rattle.guard.specs.Condition.{comparison_at}
 use Rattle.guard.proofs.reading.comparison_at.Goals as goal
 

@@ -1,4 +1,3 @@
-use borrow.Author.Rules.{rules}
 use Rattle.guard.specs.Condition.{negated_at}
 use Rattle.guard.proofs.reading.negated_at.Goals as goal
 

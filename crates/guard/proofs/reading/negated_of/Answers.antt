@@ -1,5 +1,4 @@
 use borrow.Author.Tests.{eq-eqb, ne_eqb}
-use borrow.Author.Rules.{rules}
 use Rattle.guard.proofs.reading.negated_of.Goals as goal
 
 pub returns-then-code : goal.returns-then-code

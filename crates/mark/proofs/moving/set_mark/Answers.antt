@@ -17,12 +17,12 @@ pub shape_of-m : goal.shape_of-m
 shape_of-m c =
     let a = c.args in
     let m = set (set a.m.now 0 (a.mark + 1)) (mark_start a.mark) c.count.result in
-    same_len_mid {X = ℕ} (mark_start a.mark + 1) (mark_start a.mark + 1 + LIMIT - (mark_start a.mark + 1)) m c.save_aliases.new.1.0 c.save_aliases.auto.1.0
+    same_len_mid {X = ℕ} (mark_start a.mark + 1) (mark_start a.mark + 1 + LIMIT - (mark_start a.mark + 1)) m c.save_aliases.new.words c.save_aliases.auto.words
     ∙ length-set (set a.m.now 0 (a.mark + 1)) _ _ ∙ length-set a.m.now _ _
 
 pub returns : goal.returns
 returns c =
     let a = c.args in
     let n = mark_start a.mark + 1 + LIMIT - (mark_start a.mark + 1) in
-    marked_by_lem a.g.now a.m.now a.mark n c.count.result c.save_aliases.new.1.0
+    marked_by_lem a.g.now a.m.now a.mark n c.count.result c.save_aliases.new.words
     (add-sub_cancel_left (mark_start a.mark + 1) LIMIT) c.count.ensures c.save_aliases.ensures

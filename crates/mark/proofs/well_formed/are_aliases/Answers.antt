@@ -2,7 +2,6 @@ use mathlib.Core.Path.{◌≡◌, refl, sym, ap, ◌∙◌}
 use mathlib.Core.Bool.{true}
 use Prim.Native.Nat.{◌-◌, ◌≤◌}
 use native.Mathlib.Omega.{arith}
-use borrow.Author.Tests.{not-true, not-false}
 use borrow.Author.Rules.{rules}
 use lib.ListN.{get_or}
 use Rattle.graph.specs.WellFormed.{is_alias, all_pass}
@@ -22,7 +21,7 @@ pub returns-then-not-is_alias : goal.returns-then-not-is_alias
 returns-then-not-is_alias c =
     let a = c.args in
     let l = c.loop-n in
-    sym (pass_off (λ i. is_alias i a.nodes (get_or a.words.now i 0)) l.n (sym c.is_alias.ensures ∙ not-true _ c.if-not-is_alias.true) a.nodes c.loop-n-test.true)
+    sym (pass_off (λ i. is_alias i a.nodes (get_or a.words.now i 0)) l.n (sym c.is_alias.ensures ∙ c.if-not-is_alias.true) a.nodes c.loop-n-test.true)
 
 pub overflow_add-n : goal.overflow_add-n
 overflow_add-n c = omega arith
@@ -34,7 +33,7 @@ pub loop-n-preserved : goal.loop-n-preserved
 loop-n-preserved c =
     let a = c.args in
     let l = c.loop-n in
-    (omega arith, pass_on (λ i. is_alias i a.nodes (get_or a.words.now i 0)) l.n l.invariant.1 (sym c.is_alias.ensures ∙ not-false _ c.if-not-is_alias.false))
+    (omega arith, pass_on (λ i. is_alias i a.nodes (get_or a.words.now i 0)) l.n l.invariant.1 (sym c.is_alias.ensures ∙ c.if-not-is_alias.false))
 
 pub returns : goal.returns
 returns c =

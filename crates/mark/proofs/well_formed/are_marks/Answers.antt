@@ -1,7 +1,7 @@
 use mathlib.Core.Path.{◌≡◌, sym, ap, ◌∙◌}
 use Prim.Native.Nat.{◌-◌, ◌≤◌}
 use native.Mathlib.Omega.{arith}
-use borrow.Author.Tests.{not-true, not-false, eq-eqb, ne_eqb, lt-leb}
+use borrow.Author.Tests.{eq-eqb, ne_eqb, lt-leb}
 use Rattle.graph.specs.Layout.{LIMIT}
 use Rattle.mark.specs.Layout.{MOST}
 use Rattle.mark.specs.WellFormed.{are_first, are_marks}
@@ -31,7 +31,7 @@ is_mark-requires c = (c.if-m-ne-MARKS.false, omega arith, c.loop-mark.invariant.
 pub returns-then-not-is_mark : goal.returns-then-not-is_mark
 returns-then-not-is_mark c =
     let l = c.loop-mark in
-    sym (l.invariant.2 ∙ first_off l.limit _ (l.mark - 1) l.mark (omega arith) (sym c.is_mark.ensures ∙ not-true _ c.if-not-is_mark.true))
+    sym (l.invariant.2 ∙ first_off l.limit _ (l.mark - 1) l.mark (omega arith) (sym c.is_mark.ensures ∙ c.if-not-is_mark.true))
 
 pub overflow_mul-limit : goal.overflow_mul-limit
 overflow_mul-limit c = omega arith
@@ -51,7 +51,7 @@ loop-mark-smaller c = omega arith
 pub loop-mark-preserved : goal.loop-mark-preserved
 loop-mark-preserved c =
     let l = c.loop-mark in
-    let e = sym c.is_mark.ensures ∙ not-false _ c.if-not-is_mark.false in
+    let e = sym c.is_mark.ensures ∙ c.if-not-is_mark.false in
     let m = c.args.m.now in
     (omega arith, omega (arith, mark_fewer l.limit m (l.mark - 1) e), l.invariant.2 ∙ first_on l.limit m (l.mark - 1) l.mark (omega arith) e)
 

@@ -1,4 +1,3 @@
-use borrow.Author.Rules.{rules}
 use Rattle.plan.proofs.one_operand.constant_or_none.Goals as goal
 
 pub returns-in-Some : goal.returns-in-Some

@@ -1,7 +1,6 @@
 -- `one_operand::has_modular_plan` meets its contract: the plan is None or it is not.
 use mathlib.Core.Bool.{not}
 use mathlib.Core.Path.{sym, ap, ◌∙◌}
-use borrow.Author.Rules.{rules}
 use Rattle.plan.specs.Plan.{Plan, is_stop}
 use Rattle.plan.proofs.Laws.{no_stop}
 use Rattle.plan.proofs.one_operand.has_modular_plan.Goals as goal

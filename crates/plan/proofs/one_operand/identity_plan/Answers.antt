@@ -1,4 +1,3 @@
-use borrow.Author.Rules.{rules}
 use Rattle.plan.specs.OneOperand.{identity_plan}
 use Rattle.plan.proofs.one_operand.identity_plan.Goals as goal
 

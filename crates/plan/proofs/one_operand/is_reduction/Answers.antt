@@ -1,4 +1,3 @@
-use borrow.Author.Rules.{rules}
 use Rattle.plan.proofs.one_operand.is_reduction.Goals as goal
 
 pub returns-in-Truncate : goal.returns-in-Truncate

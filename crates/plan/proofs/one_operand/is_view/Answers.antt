@@ -6,9 +6,9 @@ use Rattle.plan.proofs.one_operand.is_view.Goals.{then-width-eq0-via-then-width-
 pub returns-then-width-eq0 : goal.returns-then-width-eq0
 returns-then-width-eq0 c =
     elim c.then-width-eq0.branch [
-      then-width-eq0-via-then-width-eq0 w ↦ rw (c.in-SignExtend.is, w.if-width-eq0.true)
-    | then-width-eq0-via-else-width-eq0+then-width-gt128 w ↦
-      rw (c.in-SignExtend.is, lt-ltb 0 c.in-SignExtend.width (omega arith), lt-leb _ 128 w.if-width-gt128.true)
+      | then-width-eq0-via-then-width-eq0 w ↦ rw (c.in-SignExtend.is, w.if-width-eq0.true)
+      | then-width-eq0-via-else-width-eq0+then-width-gt128 w ↦
+          rw (c.in-SignExtend.is, lt-ltb 0 c.in-SignExtend.width (omega arith), lt-leb _ 128 w.if-width-gt128.true)
     ]
 
 pub returns-then-fits : goal.returns-then-fits

@@ -1,4 +1,3 @@
-use borrow.Author.Rules.{rules}
 use Rattle.plan.proofs.one_operand.is_wide.Goals as goal
 
 pub returns-in-Bits : goal.returns-in-Bits

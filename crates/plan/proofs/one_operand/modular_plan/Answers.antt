@@ -1,4 +1,3 @@
-use borrow.Author.Rules.{rules}
 use Rattle.plan.specs.OneOperand.{modular_plan}
 use Rattle.plan.proofs.one_operand.modular_plan.Goals as goal
 

@@ -1,4 +1,3 @@
-use borrow.Author.Rules.{rules}
 use Rattle.plan.proofs.one_operand.truncated_plan.Goals as goal
 
 pub returns-then-is_modular : goal.returns-then-is_modular

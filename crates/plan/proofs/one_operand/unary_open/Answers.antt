@@ -1,4 +1,3 @@
-use borrow.Author.Rules.{rules}
 use Rattle.plan.proofs.one_operand.unary_open.Goals as goal
 
 pub returns-then-is_reduction : goal.returns-then-is_reduction

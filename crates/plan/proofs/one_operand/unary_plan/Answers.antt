@@ -1,4 +1,3 @@
-use borrow.Author.Rules.{rules}
 use Rattle.plan.specs.OneOperand.{unary_plan}
 use Rattle.plan.proofs.one_operand.unary_plan.Goals as goal
 

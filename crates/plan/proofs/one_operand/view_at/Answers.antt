@@ -1,7 +1,6 @@
 use mathlib.Core.Path.{◌≡◌, refl, sym, ap, ◌∙◌}
 use Prim.Native.Nat.{ℕ, suc, ◌-◌}
 use native.Mathlib.Omega.{arith}
-use borrow.Author.Rules.{rules}
 use Rattle.range.specs.declared.ScalarType.{ScalarType}
 use Rattle.fold.specs.Shape.{same_type, id_of}
 use Rattle.plan.specs.OneOperand.{view_from, view_at}

@@ -1,11 +1,5 @@
-use mathlib.Core.Path.{◌≡◌, refl, sym, ap, ◌∙◌}
-use Prim.Native.Nat.{ℕ, suc, ◌-◌}
-use native.Mathlib.Omega.{arith}
-use borrow.Author.Rules.{rules}
-use Rattle.range.specs.declared.ScalarType.{ScalarType}
-use Rattle.fold.specs.Shape.{same_type, id_of}
+use mathlib.Core.Path.{◌≡◌}
 use Rattle.plan.specs.OneOperand.{view_from, view_at}
-use Rattle.plan.proofs.Laws.{view_end, view_same, view_on}
 use Rattle.plan.proofs.one_operand.view_at.Given as goal
 
 abbrev pub invariant-loop-left : goal.invariant-loop-left

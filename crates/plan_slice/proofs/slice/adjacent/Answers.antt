@@ -15,8 +15,8 @@ returns-then-a-seam c = rw (← c.cut_of-first.ensures, c.in-Some.is, ← c.cut_
 pub returns : goal.returns
 returns c =
     elim c.else-upper-lower.branch [
-      else-upper-lower-via-then-upper-lower+else-a-seam w ↦
-      rw (← c.cut_of-first.ensures, c.in-Some.is, ← c.cut_of-second.ensures, c.in-Some-second.is, eq-eqb c.in-Some.a.value.0 c.in-Some-second.b.value.0 w.if-upper-lower.true, ne_eqb c.in-Some.a.offset _ w.if-a-seam.false)
-    | else-upper-lower-via-else-upper-lower w ↦
-      rw (← c.cut_of-first.ensures, c.in-Some.is, ← c.cut_of-second.ensures, c.in-Some-second.is, ne_eqb c.in-Some.a.value.0 c.in-Some-second.b.value.0 w.if-upper-lower.false)
+      | else-upper-lower-via-then-upper-lower+else-a-seam w ↦
+          rw (← c.cut_of-first.ensures, c.in-Some.is, ← c.cut_of-second.ensures, c.in-Some-second.is, eq-eqb c.in-Some.a.value.0 c.in-Some-second.b.value.0 w.if-upper-lower.true, ne_eqb c.in-Some.a.offset _ w.if-a-seam.false)
+      | else-upper-lower-via-else-upper-lower w ↦
+          rw (← c.cut_of-first.ensures, c.in-Some.is, ← c.cut_of-second.ensures, c.in-Some-second.is, ne_eqb c.in-Some.a.value.0 c.in-Some-second.b.value.0 w.if-upper-lower.false)
     ]

@@ -18,8 +18,8 @@ returns-then-is_in_bits c = rw (c.in-Some.is, ← c.is_in_bits.ensures, c.if-is_
 pub returns : goal.returns
 returns c =
     elim c.else-offset-eq0.branch [
-      else-offset-eq0-via-then-offset-eq0+else-is_in_bits w ↦
-      rw (c.in-Some.is, ← w.is_in_bits.ensures, w.if-is_in_bits.false, ← c.is_nonnegative.ensures, c.if-not-is_nonnegative.false, ← c.as_word.ensures, ← c.lowered-upper.ensures, ← zero_test (val c.lowered-upper.result), ← c.is_zero.ensures, c.if-is_zero.false, eq-eqb _ 0 w.if-offset-eq0.true)
-    | else-offset-eq0-via-else-offset-eq0 w ↦
-      rw (c.in-Some.is, ← c.is_nonnegative.ensures, c.if-not-is_nonnegative.false, ← c.as_word.ensures, ← c.lowered-upper.ensures, ← zero_test (val c.lowered-upper.result), ← c.is_zero.ensures, c.if-is_zero.false, ne_eqb _ 0 w.if-offset-eq0.false)
+      | else-offset-eq0-via-then-offset-eq0+else-is_in_bits w ↦
+          rw (c.in-Some.is, ← w.is_in_bits.ensures, w.if-is_in_bits.false, ← c.is_nonnegative.ensures, c.if-not-is_nonnegative.false, ← c.as_word.ensures, ← c.lowered-upper.ensures, ← zero_test (val c.lowered-upper.result), ← c.is_zero.ensures, c.if-is_zero.false, eq-eqb _ 0 w.if-offset-eq0.true)
+      | else-offset-eq0-via-else-offset-eq0 w ↦
+          rw (c.in-Some.is, ← c.is_nonnegative.ensures, c.if-not-is_nonnegative.false, ← c.as_word.ensures, ← c.lowered-upper.ensures, ← zero_test (val c.lowered-upper.result), ← c.is_zero.ensures, c.if-is_zero.false, ne_eqb _ 0 w.if-offset-eq0.false)
     ]

@@ -13,8 +13,8 @@ pub returns : goal.returns
 returns c =
     let e : val c.if-low_width-lt128.raised ≡ raised (val c.args.high) c.args.low_width =
     elim c.if-low_width-lt128.branch [
-      then-low_width-lt128 w ↦ rw (w.raised-is, lt-ltb _ 128 w.if-low_width-lt128.true) w.unbounded_shl-raised.ensures
-    | else-low_width-lt128 w ↦ rw (w.raised-is, val_low 0, le-ltb _ 128 w.if-low_width-lt128.false)
+      | then-low_width-lt128 w ↦ rw (w.raised-is, lt-ltb _ 128 w.if-low_width-lt128.true) w.unbounded_shl-raised.ensures
+      | else-low_width-lt128 w ↦ rw (w.raised-is, val_low 0, le-ltb _ 128 w.if-low_width-lt128.false)
     ]
     in
     c.bitor.ensures ∙ ap (λ (n : ℕ). bit_or n (val c.args.low)) e
