@@ -3,7 +3,7 @@ use mathlib.Core.Path.{◌≡◌, refl, sym, ap}
 use mathlib.Core.Bool.{Bool, true, false, cond, ◌||◌, false≢true}
 use mathlib.Core.List.{List}
 use mathlib.Core.Option.{Option, none, some}
-use Prim.Native.Nat.{ℕ, suc, ◌-◌}
+use Prim.Native.Nat.{ℕ, ◌-◌}
 use Rattle.word.specs.Option.{given}
 use Rattle.range.specs.Interval.{Interval}
 use Rattle.evaluate.specs.declared.Binary.{Binary}
@@ -12,7 +12,7 @@ use Rattle.graph.specs.Node.{type_at, range_at}
 use Rattle.graph.specs.Insert.{resolve}
 use Rattle.guard.specs.Condition.{behind_nots, Comparison, comparison_at}
 use Rattle.assume.specs.Limits.{Limits, Pair, meet, narrows, comparable, limits_by}
-use Rattle.assume.specs.Refine.{Outcome, unchanged, narrowed, Step, step, narrow, refine_step, Assumed, assumed, go_on, refine_up_to, refined}
+use Rattle.assume.specs.Refine.{Outcome, unchanged, narrowed, Step, step, narrow, refine_step, assumed, go_on, refine_up_to, refined}
 use Rattle.assume.specs.Assume.{refined_both, assumed_by, assumed_of, assumed_guard}
 use Rattle.assume.specs.Narrowing.{narrows_at, narrows_either, narrows_by, narrows_of, is_narrowing}
 

@@ -1,5 +1,5 @@
 -- Refining a node to limits (assume.rs 26 to 79), on the words of the region.
-use Rattle.std.specs.Prelude.{Bool, cond, ◌&&◌, List, ℕ, zero, suc, ◌%◌, ◌^◌, ltb, leb, ℤ, ◌+ℤ◌, ◌-ℤ◌}
+use Rattle.std.specs.Prelude.{cond, ◌&&◌, List, ℕ, zero, suc, ◌%◌, ◌^◌, ltb, leb, ℤ, ◌+ℤ◌, ◌-ℤ◌}
 use Rattle.std.proofs.Math.Option.{Option, none, some}
 use Rattle.word.specs.Value.{residue, signed, fitted}
 use Rattle.word.specs.Option.{only, provided, mapped, given}
@@ -19,7 +19,6 @@ use Rattle.fold.specs.Operator.{sums}
 use Rattle.fold.specs.Shape.{same_type, same_binary, is_any, ByConstant, by_constant_at, origin}
 use Rattle.assume.specs.declared.Outcome as declared-outcome
 use Rattle.assume.specs.declared.Outcome.TheVariants as outcomes
-use Rattle.assume.specs.declared.Next as declared-next
 use Rattle.assume.specs.declared.MaybeNext as declared-maybe
 use Rattle.assume.specs.declared.MaybeNext.TheVariants as nexts
 use Rattle.assume.specs.Limits.{Limits, limited_to, meet, narrows}

@@ -1,4 +1,3 @@
-use borrow.Author.Rules.{rules}
 use Rattle.assume.proofs.base.base_by.Goals as goal
 
 pub returns-then-same_type : goal.returns-then-same_type

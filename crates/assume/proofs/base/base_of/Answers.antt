@@ -1,5 +1,4 @@
 use Rattle.assume.specs.Refine.{base_of}
-use borrow.Author.Rules.{rules}
 use Rattle.assume.proofs.base.base_of.Goals as goal
 
 pub returns-in-Some : goal.returns-in-Some

@@ -1,4 +1,3 @@
-use borrow.Author.Rules.{rules}
 use Rattle.assume.proofs.base.next_at.Goals as goal
 
 pub returns-in-Some : goal.returns-in-Some

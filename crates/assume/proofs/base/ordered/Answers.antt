@@ -1,4 +1,3 @@
-use borrow.Author.Rules.{rules}
 use Rattle.assume.proofs.base.ordered.Goals as goal
 
 pub returns-then-le : goal.returns-then-le

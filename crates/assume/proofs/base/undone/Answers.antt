@@ -1,9 +1,7 @@
 use mathlib.Core.Path.{sym, ◌∙◌}
 use borrow.Author.Tests.{lt-ltb, le-ltb}
 use Rattle.assume.proofs.Laws.{not_sum}
-use borrow.Author.Tests.{not-true, not-false}
 use Rattle.assume.specs.Refine.{undone}
-use borrow.Author.Rules.{rules}
 use Rattle.assume.proofs.base.undone.Goals as goal
 
 pub returns-then-not-is_sum : goal.returns-then-not-is_sum

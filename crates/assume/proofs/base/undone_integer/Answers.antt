@@ -1,4 +1,3 @@
-use borrow.Author.Rules.{rules}
 use Rattle.assume.proofs.base.undone_integer.Goals as goal
 
 pub returns-then-same_binary : goal.returns-then-same_binary

@@ -1,4 +1,3 @@
-use borrow.Author.Rules.{rules}
 use Rattle.assume.proofs.guard_assumed.assume_by.Goals as goal
 
 pub returns-in_default : goal.returns-in_default

@@ -1,5 +1,4 @@
 use Rattle.assume.specs.Assume.{assumed_of}
-use borrow.Author.Rules.{rules}
 use Rattle.assume.proofs.guard_assumed.assume_comparison.Goals as goal
 
 pub returns : goal.returns

@@ -1,5 +1,4 @@
 use Rattle.assume.specs.Assume.{assumed_guard}
-use borrow.Author.Rules.{rules}
 use Rattle.assume.proofs.guard_assumed.assume_guard.Goals as goal
 
 pub returns-in-Some : goal.returns-in-Some

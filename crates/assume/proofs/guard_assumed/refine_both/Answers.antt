@@ -1,5 +1,4 @@
 use Rattle.assume.specs.Assume.{refined_both}
-use borrow.Author.Rules.{rules}
 use Rattle.assume.proofs.guard_assumed.refine_both.Goals as goal
 
 pub returns : goal.returns

@@ -1,4 +1,3 @@
-use borrow.Author.Rules.{rules}
 use Rattle.assume.proofs.guard_assumed.then_refine.Goals as goal
 
 pub returns-in-Unchanged : goal.returns-in-Unchanged

@@ -1,5 +1,3 @@
-use borrow.Author.Tests.{not-true, not-false}
-use borrow.Author.Rules.{rules}
 use Rattle.assume.proofs.limit.comparable.Goals as goal
 
 pub returns-then-not-is_unsigned_order : goal.returns-then-not-is_unsigned_order

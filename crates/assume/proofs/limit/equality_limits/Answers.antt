@@ -1,4 +1,3 @@
-use borrow.Author.Rules.{rules}
 use Rattle.assume.proofs.limit.equality_limits.Goals as goal
 
 pub returns-then-equal : goal.returns-then-equal

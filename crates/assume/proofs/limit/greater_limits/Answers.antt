@@ -1,4 +1,3 @@
-use borrow.Author.Rules.{rules}
 use Rattle.assume.proofs.limit.greater_limits.Goals as goal
 
 pub returns : goal.returns

@@ -1,4 +1,3 @@
-use borrow.Author.Rules.{rules}
 use Rattle.assume.proofs.limit.if_equal.Goals as goal
 
 pub returns-then-eq : goal.returns-then-eq

@@ -1,6 +1,5 @@
 use Rattle.assume.proofs.Laws.{cond-not}
 use Rattle.assume.specs.Limits.{limits_by}
-use borrow.Author.Rules.{rules}
 use Rattle.assume.proofs.limit.limits_by.Goals as goal
 
 pub returns-then-expected : goal.returns-then-expected

@@ -1,5 +1,4 @@
 use Rattle.assume.specs.Limits.{meet}
-use borrow.Author.Rules.{rules}
 use Rattle.assume.proofs.limit.meet.Goals as goal
 
 pub returns : goal.returns

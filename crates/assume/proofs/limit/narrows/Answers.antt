@@ -1,5 +1,4 @@
 use Rattle.assume.specs.Limits.{narrows}
-use borrow.Author.Rules.{rules}
 use Rattle.assume.proofs.limit.narrows.Goals as goal
 
 pub returns-then-eq : goal.returns-then-eq

@@ -1,4 +1,3 @@
-use borrow.Author.Rules.{rules}
 use Rattle.assume.proofs.limit.not_less_limits.Goals as goal
 
 pub returns : goal.returns

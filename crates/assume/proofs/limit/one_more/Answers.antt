@@ -1,5 +1,4 @@
 use Rattle.word.specs.Value.{int_of}
-use borrow.Author.Rules.{rules}
 use Rattle.assume.proofs.limit.one_more.Goals as goal
 
 pub returns : goal.returns

@@ -1,4 +1,3 @@
-use borrow.Author.Rules.{rules}
 use Rattle.assume.proofs.limit.or_end.Goals as goal
 
 pub returns-in-Some : goal.returns-in-Some

@@ -1,6 +1,5 @@
 -- `is_narrowing` meets its contract. Assumes nothing.
 use Rattle.assume.specs.Narrowing.{is_narrowing}
-use borrow.Author.Rules.{rules}
 use Rattle.assume.proofs.narrowing.is_narrowing.Goals as goal
 
 pub returns-in-Some : goal.returns-in-Some

@@ -1,7 +1,6 @@
 -- `narrows_at` meets its contract. Assumes nothing.
 use Rattle.assume.specs.Limits.{narrows}
 use Rattle.assume.specs.Narrowing.{narrows_at}
-use borrow.Author.Rules.{rules}
 use Rattle.assume.proofs.narrowing.narrows_at.Goals as goal
 
 pub returns-in_default : goal.returns-in_default

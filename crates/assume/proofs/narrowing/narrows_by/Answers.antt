@@ -1,5 +1,4 @@
 -- `narrows_by` meets its contract. Assumes nothing.
-use borrow.Author.Rules.{rules}
 use Rattle.assume.proofs.narrowing.narrows_by.Goals as goal
 
 pub returns-in_default : goal.returns-in_default

@@ -1,6 +1,5 @@
 -- `narrows_comparison` meets its contract. Assumes nothing.
 use Rattle.assume.specs.Narrowing.{narrows_of}
-use borrow.Author.Rules.{rules}
 use Rattle.assume.proofs.narrowing.narrows_comparison.Goals as goal
 
 pub returns : goal.returns

@@ -1,6 +1,5 @@
 -- `narrows_either` meets its contract. Assumes nothing.
 use Rattle.assume.specs.Narrowing.{narrows_either}
-use borrow.Author.Rules.{rules}
 use Rattle.assume.proofs.narrowing.narrows_either.Goals as goal
 
 pub returns-then-narrows_at : goal.returns-then-narrows_at

@@ -1,4 +1,3 @@
-use borrow.Author.Rules.{rules}
 use Rattle.assume.proofs.refine.alias_to.Goals as goal
 
 pub returns-in-Id : goal.returns-in-Id

@@ -1,10 +1,7 @@
-use mathlib.Core.Path.{◌≡◌, refl, sym, ap, ◌∙◌}
+use mathlib.Core.Path.{refl, sym, ap, ◌∙◌}
 use Prim.Native.Nat.{◌-◌}
 use native.Mathlib.Omega.{arith}
-use borrow.Author.Rules.{rules}
-use lib.ListN.{length}
-use Rattle.assume.specs.Limits.{limits_of}
-use Rattle.assume.specs.Refine.{narrowed, outcome_of, refine_up_to, refined}
+use Rattle.assume.specs.Refine.{narrowed, refine_up_to, refined}
 use Rattle.assume.proofs.Laws.{steps_none, steps_on}
 use Rattle.assume.proofs.refine.refine.Goals as goal
 

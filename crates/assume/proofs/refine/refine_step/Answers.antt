@@ -1,5 +1,4 @@
 use Rattle.assume.specs.Refine.{refine_step}
-use borrow.Author.Rules.{rules}
 use Rattle.assume.proofs.refine.refine_step.Goals as goal
 
 pub returns-in_default : goal.returns-in_default

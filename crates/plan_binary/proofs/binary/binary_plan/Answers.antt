@@ -1,4 +1,3 @@
-use borrow.Author.Rules.{rules}
 use Rattle.plan_binary.specs.Binary.{binary_plan}
 use Rattle.plan_binary.proofs.binary.binary_plan.Goals as goal
 

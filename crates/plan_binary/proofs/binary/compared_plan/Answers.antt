@@ -1,4 +1,3 @@
-use borrow.Author.Rules.{rules}
 use Rattle.plan_binary.proofs.binary.compared_plan.Goals as goal
 
 pub returns-in-Some : goal.returns-in-Some

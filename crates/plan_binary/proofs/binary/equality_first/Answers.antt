@@ -1,4 +1,3 @@
-use borrow.Author.Rules.{rules}
 use Rattle.plan_binary.proofs.binary.equality_first.Goals as goal
 
 pub returns-then-not-is_equality : goal.returns-then-not-is_equality

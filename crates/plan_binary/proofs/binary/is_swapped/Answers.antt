@@ -1,4 +1,3 @@
-use borrow.Author.Rules.{rules}
 use Rattle.plan_binary.proofs.binary.is_swapped.Goals as goal
 use Rattle.plan_binary.proofs.binary.is_swapped.Goals.{else-is_some-via-then-is_some+else-not-is_some, else-is_some-via-else-is_some}
 
@@ -8,6 +7,6 @@ returns-then-not-is_some c = rw (← c.is_some.ensures, c.if-is_some.true, ← c
 pub returns : goal.returns
 returns c =
     elim c.else-is_some.branch [
-      else-is_some-via-then-is_some+else-not-is_some w ↦ rw (← c.is_some.ensures, w.if-is_some.true, ← w.is_some-then-is_some.ensures, w.if-not-is_some.false)
-    | else-is_some-via-else-is_some w ↦ rw (← c.is_some.ensures, w.if-is_some.false)
+      | else-is_some-via-then-is_some+else-not-is_some w ↦ rw (← c.is_some.ensures, w.if-is_some.true, ← w.is_some-then-is_some.ensures, w.if-not-is_some.false)
+      | else-is_some-via-else-is_some w ↦ rw (← c.is_some.ensures, w.if-is_some.false)
     ]

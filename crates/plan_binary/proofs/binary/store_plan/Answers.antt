@@ -1,4 +1,3 @@
-use borrow.Author.Rules.{rules}
 use Rattle.plan_binary.proofs.binary.store_plan.Goals as goal
 
 pub returns-in_default : goal.returns-in_default

@@ -1,4 +1,3 @@
-use borrow.Author.Rules.{rules}
 use Rattle.plan_binary.proofs.binary.with_itself.Goals as goal
 
 pub returns-then-is_kept_twice : goal.returns-then-is_kept_twice

@@ -1,5 +1,4 @@
 use borrow.Author.Tests.{eq-eqb, ne_eqb}
-use borrow.Author.Rules.{rules}
 use Rattle.plan_binary.proofs.binary.with_itself_plan.Goals as goal
 
 pub returns-then-left-right : goal.returns-then-left-right

@@ -1,4 +1,3 @@
-use borrow.Author.Rules.{rules}
 use Rattle.fold.specs.Shape.{by_constant_at}
 use Rattle.plan_binary.proofs.constant_right.bits_masks.Goals as goal
 

@@ -1,4 +1,3 @@
-use borrow.Author.Rules.{rules}
 use Rattle.plan_binary.proofs.constant_right.bits_ones.Goals as goal
 
 pub returns-then-not-eq : goal.returns-then-not-eq

@@ -1,4 +1,3 @@
-use borrow.Author.Rules.{rules}
 use Rattle.plan_binary.proofs.constant_right.offset_bits.Goals as goal
 
 pub returns-then-not-le : goal.returns-then-not-le

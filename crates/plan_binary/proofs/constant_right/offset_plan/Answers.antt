@@ -1,4 +1,3 @@
-use borrow.Author.Rules.{rules}
 use Rattle.plan_binary.proofs.constant_right.offset_plan.Goals as goal
 
 pub returns-then-not-is_equality : goal.returns-then-not-is_equality

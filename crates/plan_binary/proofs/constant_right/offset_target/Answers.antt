@@ -1,4 +1,3 @@
-use borrow.Author.Rules.{rules}
 use Rattle.plan_binary.proofs.constant_right.offset_target.Goals as goal
 
 pub returns-then-same_binary : goal.returns-then-same_binary

@@ -1,4 +1,3 @@
-use borrow.Author.Rules.{rules}
 use Rattle.plan_binary.proofs.constant_right.offset_typed.Goals as goal
 
 pub returns-in-Bool : goal.returns-in-Bool

@@ -15,6 +15,6 @@ returns-then-is_power_of_two c =
 pub returns : goal.returns
 returns c =
     elim c.else-same_binary.branch [
-      else-same_binary-via-then-same_binary+else-is_power_of_two w ↦ rw (← c.same_binary.ensures, w.if-same_binary.true, ← w.is_power_of_two.ensures, w.if-is_power_of_two.false)
-    | else-same_binary-via-else-same_binary w ↦ rw (← c.same_binary.ensures, w.if-same_binary.false)
+      | else-same_binary-via-then-same_binary+else-is_power_of_two w ↦ rw (← c.same_binary.ensures, w.if-same_binary.true, ← w.is_power_of_two.ensures, w.if-is_power_of_two.false)
+      | else-same_binary-via-else-same_binary w ↦ rw (← c.same_binary.ensures, w.if-same_binary.false)
     ]

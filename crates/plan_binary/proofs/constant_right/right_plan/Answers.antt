@@ -1,4 +1,3 @@
-use borrow.Author.Rules.{rules}
 use Rattle.word.specs.Value.{val}
 use Rattle.graph.proofs.Tests.{zero_test}
 use Rattle.plan_binary.proofs.constant_right.right_plan.Goals as goal

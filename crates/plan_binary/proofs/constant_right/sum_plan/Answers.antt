@@ -1,4 +1,3 @@
-use borrow.Author.Rules.{rules}
 use Rattle.plan_binary.proofs.constant_right.sum_plan.Goals as goal
 
 pub returns-in-Some : goal.returns-in-Some

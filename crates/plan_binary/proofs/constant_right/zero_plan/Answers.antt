@@ -1,4 +1,3 @@
-use borrow.Author.Rules.{rules}
 use Rattle.word.proofs.Products.{val_low}
 use Rattle.plan_binary.proofs.constant_right.zero_plan.Goals as goal
 

@@ -1,4 +1,3 @@
-use borrow.Author.Rules.{rules}
 use Rattle.plan_binary.proofs.shift.bits_shift.Goals as goal
 
 pub returns-then-not-is_folded_shift : goal.returns-then-not-is_folded_shift

@@ -1,4 +1,3 @@
-use borrow.Author.Rules.{rules}
 use Rattle.plan_binary.proofs.shift.is_shifted_out.Goals as goal
 
 pub returns-then-le : goal.returns-then-le

@@ -1,6 +1,5 @@
 use mathlib.Core.Bool.{Bool, ◌||◌}
 use mathlib.Core.Path.{◌≡◌, ap, ◌∙◌}
-use borrow.Author.Rules.{rules}
 use Rattle.word.specs.Value.{val}
 use Rattle.word.proofs.Products.{val_low}
 use Rattle.graph.specs.Node.{type_at, range_at}
@@ -13,8 +12,8 @@ pub returns-then-is_shifted_out : goal.returns-then-is_shifted_out
 returns-then-is_shifted_out c =
     let narrow : c.if-is_narrow.narrow ≡ narrow_type (type_at c.args.g.now c.args.left.0) c.args.width || fits c.args.width (range_at c.args.g.now c.args.left.0) =
     elim c.if-is_narrow.branch [
-      then-is_narrow w ↦ rw (w.narrow-is, ← c.type_at.ensures, ← c.is_narrow.ensures, w.if-is_narrow.true)
-    | else-is_narrow w ↦ rw (w.narrow-is, ← c.type_at.ensures, ← c.is_narrow.ensures, w.if-is_narrow.false, ← w.range_at.ensures) w.fits-narrow.ensures
+      | then-is_narrow w ↦ rw (w.narrow-is, ← c.type_at.ensures, ← c.is_narrow.ensures, w.if-is_narrow.true)
+      | else-is_narrow w ↦ rw (w.narrow-is, ← c.type_at.ensures, ← c.is_narrow.ensures, w.if-is_narrow.false, ← w.range_at.ensures) w.fits-narrow.ensures
     ]
     in
     let out : c.is_shifted_out.result ≡ is_shifted_out c.args.op c.args.width (val c.args.count) (narrow_type (type_at c.args.g.now c.args.left.0) c.args.width || fits c.args.width (range_at c.args.g.now c.args.left.0)) =
@@ -26,8 +25,8 @@ pub returns-then-not-same_type : goal.returns-then-not-same_type
 returns-then-not-same_type c =
     let narrow : c.if-is_narrow.narrow ≡ narrow_type (type_at c.args.g.now c.args.left.0) c.args.width || fits c.args.width (range_at c.args.g.now c.args.left.0) =
     elim c.if-is_narrow.branch [
-      then-is_narrow w ↦ rw (w.narrow-is, ← c.type_at.ensures, ← c.is_narrow.ensures, w.if-is_narrow.true)
-    | else-is_narrow w ↦ rw (w.narrow-is, ← c.type_at.ensures, ← c.is_narrow.ensures, w.if-is_narrow.false, ← w.range_at.ensures) w.fits-narrow.ensures
+      | then-is_narrow w ↦ rw (w.narrow-is, ← c.type_at.ensures, ← c.is_narrow.ensures, w.if-is_narrow.true)
+      | else-is_narrow w ↦ rw (w.narrow-is, ← c.type_at.ensures, ← c.is_narrow.ensures, w.if-is_narrow.false, ← w.range_at.ensures) w.fits-narrow.ensures
     ]
     in
     let out : c.is_shifted_out.result ≡ is_shifted_out c.args.op c.args.width (val c.args.count) (narrow_type (type_at c.args.g.now c.args.left.0) c.args.width || fits c.args.width (range_at c.args.g.now c.args.left.0)) =
@@ -39,8 +38,8 @@ pub returns-in-Some : goal.returns-in-Some
 returns-in-Some c =
     let narrow : c.if-is_narrow.narrow ≡ narrow_type (type_at c.args.g.now c.args.left.0) c.args.width || fits c.args.width (range_at c.args.g.now c.args.left.0) =
     elim c.if-is_narrow.branch [
-      then-is_narrow w ↦ rw (w.narrow-is, ← c.type_at.ensures, ← c.is_narrow.ensures, w.if-is_narrow.true)
-    | else-is_narrow w ↦ rw (w.narrow-is, ← c.type_at.ensures, ← c.is_narrow.ensures, w.if-is_narrow.false, ← w.range_at.ensures) w.fits-narrow.ensures
+      | then-is_narrow w ↦ rw (w.narrow-is, ← c.type_at.ensures, ← c.is_narrow.ensures, w.if-is_narrow.true)
+      | else-is_narrow w ↦ rw (w.narrow-is, ← c.type_at.ensures, ← c.is_narrow.ensures, w.if-is_narrow.false, ← w.range_at.ensures) w.fits-narrow.ensures
     ]
     in
     let out : c.is_shifted_out.result ≡ is_shifted_out c.args.op c.args.width (val c.args.count) (narrow_type (type_at c.args.g.now c.args.left.0) c.args.width || fits c.args.width (range_at c.args.g.now c.args.left.0)) =
@@ -52,8 +51,8 @@ pub returns-in-None : goal.returns-in-None
 returns-in-None c =
     let narrow : c.if-is_narrow.narrow ≡ narrow_type (type_at c.args.g.now c.args.left.0) c.args.width || fits c.args.width (range_at c.args.g.now c.args.left.0) =
     elim c.if-is_narrow.branch [
-      then-is_narrow w ↦ rw (w.narrow-is, ← c.type_at.ensures, ← c.is_narrow.ensures, w.if-is_narrow.true)
-    | else-is_narrow w ↦ rw (w.narrow-is, ← c.type_at.ensures, ← c.is_narrow.ensures, w.if-is_narrow.false, ← w.range_at.ensures) w.fits-narrow.ensures
+      | then-is_narrow w ↦ rw (w.narrow-is, ← c.type_at.ensures, ← c.is_narrow.ensures, w.if-is_narrow.true)
+      | else-is_narrow w ↦ rw (w.narrow-is, ← c.type_at.ensures, ← c.is_narrow.ensures, w.if-is_narrow.false, ← w.range_at.ensures) w.fits-narrow.ensures
     ]
     in
     let out : c.is_shifted_out.result ≡ is_shifted_out c.args.op c.args.width (val c.args.count) (narrow_type (type_at c.args.g.now c.args.left.0) c.args.width || fits c.args.width (range_at c.args.g.now c.args.left.0)) =

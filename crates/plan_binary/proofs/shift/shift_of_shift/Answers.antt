@@ -13,8 +13,8 @@ pub returns-then-not-lt : goal.returns-then-not-lt
 returns-then-not-lt c =
     let first : c.lt.result ≡ ltb (val c.args.shape.value) c.args.width = c.lt.ensures ∙ ap (ltb (val c.args.shape.value)) c.word_of.ensures in
     elim c.then-not-lt.branch [
-      then-not-lt-via-then-not-lt w ↦ rw (← first, w.if-not-lt.true)
-    | then-not-lt-via-else-not-lt+then-not-lt-2 w ↦ rw (← first, w.if-not-lt.false, ← w.word_of-else-not-lt.ensures, ← w.lt-else-not-lt.ensures, w.if-not-lt-2.true)
+      | then-not-lt-via-then-not-lt w ↦ rw (← first, w.if-not-lt.true)
+      | then-not-lt-via-else-not-lt+then-not-lt-2 w ↦ rw (← first, w.if-not-lt.false, ← w.word_of-else-not-lt.ensures, ← w.lt-else-not-lt.ensures, w.if-not-lt-2.true)
     ]
 
 pub returns-then-not-same_binary : goal.returns-then-not-same_binary

@@ -1,5 +1,4 @@
 use borrow.Author.Tests.{eq-eqb, ne_eqb}
-use borrow.Author.Rules.{rules}
 use Rattle.plan_slice.proofs.slice.adjacent.Goals as goal
 use Rattle.plan_slice.proofs.slice.adjacent.Goals.{else-upper-lower-via-then-upper-lower+else-a-seam, else-upper-lower-via-else-upper-lower}
 

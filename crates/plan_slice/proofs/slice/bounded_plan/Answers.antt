@@ -1,5 +1,4 @@
-use borrow.Author.Tests.{eq-eqb, ne_eqb, not-true, not-false}
-use borrow.Author.Rules.{rules}
+use borrow.Author.Tests.{eq-eqb, ne_eqb}
 use Rattle.word.specs.Value.{val}
 use Rattle.word.proofs.Products.{val_low}
 use Rattle.graph.proofs.Tests.{zero_test}

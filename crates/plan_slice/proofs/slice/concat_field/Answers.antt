@@ -1,4 +1,3 @@
-use borrow.Author.Rules.{rules}
 use Rattle.plan_slice.proofs.slice.concat_field.Goals as goal
 
 pub returns-in-Some : goal.returns-in-Some

@@ -1,5 +1,4 @@
 use borrow.Author.Tests.{eq-eqb, ne_eqb}
-use borrow.Author.Rules.{rules}
 use Rattle.plan_slice.specs.Slice.{concat_first}
 use Rattle.plan_slice.proofs.slice.concat_first.Goals as goal
 

@@ -1,4 +1,3 @@
-use borrow.Author.Rules.{rules}
 use Rattle.plan_slice.proofs.slice.joined_plan.Goals as goal
 
 pub returns : goal.returns

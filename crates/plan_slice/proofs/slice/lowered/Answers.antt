@@ -1,7 +1,6 @@
 use mathlib.Core.Path.{◌∙◌}
 use native.Mathlib.Nat.{mod-eq_of_lt}
 use borrow.Author.Tests.{lt-ltb, le-ltb}
-use borrow.Author.Rules.{rules}
 use Rattle.word.proofs.Products.{val_low}
 use Rattle.plan_slice.proofs.slice.lowered.Goals as goal
 

@@ -1,5 +1,4 @@
 use native.Mathlib.Nat.{mod-eq_of_lt}
-use borrow.Author.Rules.{rules}
 use Rattle.plan_slice.proofs.slice.new_slice.Goals as goal
 
 pub returns : goal.returns

@@ -1,6 +1,5 @@
 use native.Mathlib.Nat.{mod-eq_of_lt}
 use borrow.Author.Tests.{lt-leb, le-leb}
-use borrow.Author.Rules.{rules}
 use Rattle.plan_slice.proofs.slice.slice_concat.Goals as goal
 
 pub returns-then-low_width-offset : goal.returns-then-low_width-offset

@@ -1,4 +1,3 @@
-use borrow.Author.Rules.{rules}
 use Rattle.plan_slice.specs.Slice.{slice_first}
 use Rattle.plan_slice.proofs.slice.slice_first.Goals as goal
 

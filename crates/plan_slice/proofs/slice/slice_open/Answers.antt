@@ -1,5 +1,4 @@
 use borrow.Author.Tests.{eq-eqb, ne_eqb}
-use borrow.Author.Rules.{rules}
 use Rattle.plan_slice.proofs.slice.slice_open.Goals as goal
 
 pub returns-then-offset-eq0 : goal.returns-then-offset-eq0

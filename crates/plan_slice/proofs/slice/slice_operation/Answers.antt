@@ -1,5 +1,4 @@
 use borrow.Author.Tests.{le-leb, lt-leb}
-use borrow.Author.Rules.{rules}
 use Rattle.plan_slice.proofs.slice.slice_operation.Goals as goal
 
 pub returns-then-offset-width : goal.returns-then-offset-width

@@ -1,5 +1,4 @@
 use borrow.Author.Tests.{eq-eqb, ne_eqb, lt-leb, le-leb}
-use borrow.Author.Rules.{rules}
 use Rattle.word.proofs.Products.{val_low}
 use Rattle.plan_slice.proofs.slice.slice_part.Goals as goal
 use Rattle.plan_slice.proofs.slice.slice_part.Goals.{then-offset-ge128-via-then-offset-ge128, then-offset-ge128-via-else-offset-ge128+then-is_above, else-offset-eq0-via-then-offset-eq0+else-same_type, else-offset-eq0-via-else-offset-eq0}

@@ -1,4 +1,3 @@
-use borrow.Author.Rules.{rules}
 use Rattle.plan_slice.specs.Slice.{slice_plan}
 use Rattle.plan_slice.proofs.slice.slice_plan.Goals as goal
 
