@@ -1,4 +1,3 @@
-use borrow.Author.Rules.{rules}
 use Rattle.build.proofs.Laws.{range_first, on_id-stop}
 use Rattle.build.proofs.range_test.difference_test.Goals as goal
 

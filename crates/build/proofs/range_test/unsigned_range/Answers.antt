@@ -1,4 +1,3 @@
-use borrow.Author.Rules.{rules}
 use Rattle.build.specs.Build.{unsigned_range}
 use Rattle.build.proofs.range_test.unsigned_range.Goals as goal
 

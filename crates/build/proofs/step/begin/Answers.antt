@@ -1,6 +1,5 @@
 -- `step::begin` meets its contract.
 use Rattle.build.proofs.Laws.{constant-inserted, on_id-tail}
-use borrow.Author.Rules.{rules}
 use Rattle.build.proofs.step.begin.Goals as goal
 
 pub returns-in-Give : goal.returns-in-Give

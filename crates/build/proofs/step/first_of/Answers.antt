@@ -1,7 +1,6 @@
 -- `step::first_of` meets its contract.
 use mathlib.Core.Path.{ap}
 use Rattle.plan.specs.Plan.{does}
-use borrow.Author.Rules.{rules}
 use Rattle.build.proofs.step.first_of.Goals as goal
 
 pub returns-in-Identity : goal.returns-in-Identity

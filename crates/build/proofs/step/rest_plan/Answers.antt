@@ -1,4 +1,3 @@
-use borrow.Author.Rules.{rules}
 use Rattle.build.specs.Rest.{rest_plan}
 use Rattle.build.proofs.step.rest_plan.Goals as goal
 

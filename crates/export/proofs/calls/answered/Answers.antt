@@ -4,4 +4,4 @@ use borrow.Author.Rules.{rules}
 use Rattle.export.proofs.calls.answered.Goals as goal
 
 pub returns : goal.returns
-returns c = rw (← c.request_of.ensures) ((λ i. exported (c.number.ensures i) c.call.new.0) ∙ ap numbered c.call.ensures)
+returns c = rw (← c.request_of.ensures) ((λ i. exported (c.number.ensures i) c.call.new.g) ∙ ap numbered c.call.ensures)

@@ -4,4 +4,4 @@ use borrow.Author.Rules.{rules}
 use Rattle.export.proofs.calls.answered_in_graph.Goals as goal
 
 pub returns : goal.returns
-returns c = rw (← c.request_of.ensures) ((λ i. exported (c.number.ensures i) c.call_in_graph.new.0) ∙ ap numbered c.call_in_graph.ensures)
+returns c = rw (← c.request_of.ensures) ((λ i. exported (c.number.ensures i) c.call_in_graph.new.g) ∙ ap numbered c.call_in_graph.ensures)

@@ -1,13 +1,12 @@
-use mathlib.Core.Bool.{Bool, ◌||◌}
-use mathlib.Core.Path.{◌≡◌, ap, ◌∙◌}
-use Rattle.word.specs.Value.{val}
+use mathlib.Core.Bool.{◌||◌}
+use mathlib.Core.Path.{◌≡◌}
 use Rattle.word.proofs.Products.{val_low}
 use Rattle.graph.specs.Node.{type_at, range_at}
-use Rattle.plan_binary.specs.Binary.{is_shifted_out}
 use Rattle.fold.specs.Shape.{narrow_type, fits}
 use Rattle.plan_binary.proofs.shift.shift_by.Goals as goal
 use Rattle.plan_binary.proofs.shift.shift_by.Goals.{then-is_narrow, else-is_narrow}
 
+-- In each answer: `narrow`, and with it the test of the shift, by the node.
 pub returns-then-is_shifted_out : goal.returns-then-is_shifted_out
 returns-then-is_shifted_out c =
     let narrow : c.if-is_narrow.narrow ≡ narrow_type (type_at c.args.g.now c.args.left.0) c.args.width || fits c.args.width (range_at c.args.g.now c.args.left.0) =
@@ -16,9 +15,7 @@ returns-then-is_shifted_out c =
       | else-is_narrow w ↦ rw (w.narrow-is, ← c.type_at.ensures, ← c.is_narrow.ensures, w.if-is_narrow.false, ← w.range_at.ensures) w.fits-narrow.ensures
     ]
     in
-    let out : c.is_shifted_out.result ≡ is_shifted_out c.args.op c.args.width (val c.args.count) (narrow_type (type_at c.args.g.now c.args.left.0) c.args.width || fits c.args.width (range_at c.args.g.now c.args.left.0)) =
-    c.is_shifted_out.ensures ∙ ap (λ (t : Bool). is_shifted_out c.args.op c.args.width (val c.args.count) t) narrow
-    in
+    let out = rw narrow at c.is_shifted_out.ensures in
     rw (val_low 0, ← out, c.if-is_shifted_out.true)
 
 pub returns-then-not-same_type : goal.returns-then-not-same_type
@@ -29,9 +26,7 @@ returns-then-not-same_type c =
       | else-is_narrow w ↦ rw (w.narrow-is, ← c.type_at.ensures, ← c.is_narrow.ensures, w.if-is_narrow.false, ← w.range_at.ensures) w.fits-narrow.ensures
     ]
     in
-    let out : c.is_shifted_out.result ≡ is_shifted_out c.args.op c.args.width (val c.args.count) (narrow_type (type_at c.args.g.now c.args.left.0) c.args.width || fits c.args.width (range_at c.args.g.now c.args.left.0)) =
-    c.is_shifted_out.ensures ∙ ap (λ (t : Bool). is_shifted_out c.args.op c.args.width (val c.args.count) t) narrow
-    in
+    let out = rw narrow at c.is_shifted_out.ensures in
     rw (← out, c.if-is_shifted_out.false, ← c.origin-source.ensures, ← c.type_at-2.ensures, ← c.same_type.ensures, c.if-not-same_type.true)
 
 pub returns-in-Some : goal.returns-in-Some
@@ -42,9 +37,7 @@ returns-in-Some c =
       | else-is_narrow w ↦ rw (w.narrow-is, ← c.type_at.ensures, ← c.is_narrow.ensures, w.if-is_narrow.false, ← w.range_at.ensures) w.fits-narrow.ensures
     ]
     in
-    let out : c.is_shifted_out.result ≡ is_shifted_out c.args.op c.args.width (val c.args.count) (narrow_type (type_at c.args.g.now c.args.left.0) c.args.width || fits c.args.width (range_at c.args.g.now c.args.left.0)) =
-    c.is_shifted_out.ensures ∙ ap (λ (t : Bool). is_shifted_out c.args.op c.args.width (val c.args.count) t) narrow
-    in
+    let out = rw narrow at c.is_shifted_out.ensures in
     rw (← out, c.if-is_shifted_out.false, ← c.origin-source.ensures, ← c.type_at-2.ensures, ← c.same_type.ensures, c.if-not-same_type.false, ← c.by_constant_at-inner.ensures, c.in-Some.is) c.shift_of_shift.ensures
 
 pub returns-in-None : goal.returns-in-None
@@ -55,7 +48,5 @@ returns-in-None c =
       | else-is_narrow w ↦ rw (w.narrow-is, ← c.type_at.ensures, ← c.is_narrow.ensures, w.if-is_narrow.false, ← w.range_at.ensures) w.fits-narrow.ensures
     ]
     in
-    let out : c.is_shifted_out.result ≡ is_shifted_out c.args.op c.args.width (val c.args.count) (narrow_type (type_at c.args.g.now c.args.left.0) c.args.width || fits c.args.width (range_at c.args.g.now c.args.left.0)) =
-    c.is_shifted_out.ensures ∙ ap (λ (t : Bool). is_shifted_out c.args.op c.args.width (val c.args.count) t) narrow
-    in
+    let out = rw narrow at c.is_shifted_out.ensures in
     rw (← out, c.if-is_shifted_out.false, ← c.origin-source.ensures, ← c.type_at-2.ensures, ← c.same_type.ensures, c.if-not-same_type.false, ← c.by_constant_at-inner.ensures, c.in-None.is)
