@@ -3,7 +3,6 @@ use Rattle.plan.specs.Plan.{plan_of}
 use Rattle.native.proofs.Adding.{binary_at}
 use mathlib.Core.Path.{sym, ap, ◌∙◌}
 use Rattle.native.specs.Perform.{leaf_out, builder_out}
-use borrow.Author.Rules.{rules}
 use Rattle.native.proofs.direct.binary.Goals as goal
 
 pub returns-in-Add : goal.returns-in-Add

@@ -1,6 +1,4 @@
 -- `direct::is_masked` meets its contract.
-use borrow.Author.Tests.{not-true, not-false}
-use borrow.Author.Rules.{rules}
 use Rattle.native.proofs.direct.is_masked.Goals as goal
 
 pub returns-then-not-is_equality : goal.returns-then-not-is_equality

@@ -1,6 +1,5 @@
 -- `direct::is_slice_open` meets its contract.
 use borrow.Author.Tests.{eq-eqb, ne_eqb}
-use borrow.Author.Rules.{rules}
 use Rattle.native.proofs.direct.is_slice_open.Goals as goal
 
 pub returns-then-is_some : goal.returns-then-is_some

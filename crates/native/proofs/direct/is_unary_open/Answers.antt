@@ -1,5 +1,4 @@
 -- `direct::is_unary_open` meets its contract.
-use borrow.Author.Rules.{rules}
 use Rattle.native.proofs.direct.is_unary_open.Goals as goal
 
 pub returns-then-is_some : goal.returns-then-is_some

@@ -7,8 +7,6 @@ use Rattle.assume.proofs.Idle.{guard_idle}
 use lib.ListN.{length-replicate}
 use Rattle.graph.proofs.Grown.{graph_facts}
 use mathlib.Core.Path.{sym, ap, ◌∙◌}
-use borrow.Author.Rules.{rules}
-use borrow.Author.Tests.{not-true}
 use Rattle.native.proofs.perform.assume_or_restore.Goals as goal
 
 pub is_narrowing-requires : goal.is_narrowing-requires

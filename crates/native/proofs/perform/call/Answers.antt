@@ -1,6 +1,5 @@
 use Rattle.native.specs.Perform.{request_call}
 use mathlib.Core.Path.{sym, ◌∙◌}
-use borrow.Author.Rules.{rules}
 use Rattle.native.proofs.perform.call.Goals as goal
 
 pub call_in_graph-requires : goal.call_in_graph-requires

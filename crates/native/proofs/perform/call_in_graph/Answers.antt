@@ -1,5 +1,4 @@
 use Rattle.native.specs.Perform.{request_in_graph}
-use borrow.Author.Rules.{rules}
 use Rattle.native.proofs.perform.call_in_graph.Goals as goal
 
 pub returns : goal.returns

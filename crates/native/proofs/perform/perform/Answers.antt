@@ -2,9 +2,7 @@ use Rattle.graph.proofs.Grown.{graph_facts}
 use Rattle.native.proofs.Builders.{taken_finished}
 use Rattle.request.specs.Request.{request_of}
 use Rattle.native.specs.Perform.{performed}
-use borrow.Author.Tests.{not-true, not-false}
 use mathlib.Core.Path.{sym, ◌∙◌}
-use borrow.Author.Rules.{rules}
 use Rattle.native.proofs.perform.perform.Goals as goal
 
 pub count-nodes-requires : goal.count-nodes-requires

@@ -1,5 +1,4 @@
 -- `answer_to` meets its contract: one case for each answer.
-use borrow.Author.Rules.{rules}
 use Rattle.native.proofs.perform.settle.Goals as goal
 
 pub returns-in-Id : goal.returns-in-Id

@@ -1,4 +1,3 @@
-use borrow.Author.Rules.{rules}
 use Rattle.native.proofs.perform.take_back.Goals as goal
 
 pub returns-then-is_refused : goal.returns-then-is_refused

@@ -1,7 +1,6 @@
 use Rattle.graph.proofs.Grown.{graph_facts}
 use Rattle.native.specs.Perform.{worked, leaf_out, builder_out}
 use mathlib.Core.Path.{ap}
-use borrow.Author.Rules.{rules}
 use Rattle.native.proofs.perform.work.Goals as goal
 
 pub constant-requires : goal.constant-requires

@@ -1,6 +1,5 @@
 use Rattle.native.specs.Guard.{guard_call}
 use mathlib.Core.Path.{sym, ◌∙◌}
-use borrow.Author.Rules.{rules}
 use Rattle.native.proofs.reading.guard.Goals as goal
 
 pub guard_in_graph-requires : goal.guard_in_graph-requires

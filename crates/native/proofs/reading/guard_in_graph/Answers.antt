@@ -1,7 +1,6 @@
 use Rattle.native.specs.Guard.{guard_in_graph}
 use Rattle.graph.proofs.Grown.{graph_facts}
 use borrow.Author.Tests.{lt-ltb, le-ltb}
-use borrow.Author.Rules.{rules}
 use Rattle.native.proofs.reading.guard_in_graph.Goals as goal
 
 pub count-requires : goal.count-requires

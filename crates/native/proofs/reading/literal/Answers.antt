@@ -1,7 +1,6 @@
 -- `literal` meets its contract: question 1, then the call in a graph.
 use Rattle.native.specs.Call.{literal_call}
 use mathlib.Core.Path.{sym, ◌∙◌}
-use borrow.Author.Rules.{rules}
 use Rattle.native.proofs.reading.literal.Goals as goal
 
 pub literal_in_graph-requires : goal.literal_in_graph-requires

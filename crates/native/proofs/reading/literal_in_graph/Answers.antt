@@ -2,7 +2,6 @@
 use Rattle.native.specs.Call.{literal_in_graph}
 use Rattle.graph.proofs.Grown.{graph_facts}
 use borrow.Author.Tests.{lt-ltb, le-ltb}
-use borrow.Author.Rules.{rules}
 use Rattle.native.proofs.reading.literal_in_graph.Goals as goal
 
 pub count-requires : goal.count-requires

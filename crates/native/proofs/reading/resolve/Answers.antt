@@ -1,7 +1,6 @@
 -- `resolve` meets its contract: question 1, then the call in a graph.
 use Rattle.native.specs.Call.{resolve_call}
 use mathlib.Core.Path.{sym, ◌∙◌}
-use borrow.Author.Rules.{rules}
 use Rattle.native.proofs.reading.resolve.Goals as goal
 
 pub resolve_in_graph-requires : goal.resolve_in_graph-requires

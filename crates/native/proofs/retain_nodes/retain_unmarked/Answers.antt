@@ -1,6 +1,5 @@
 use mathlib.Core.Path.{sym, ◌∙◌}
 use Rattle.native.specs.Retain.{retain_call}
-use borrow.Author.Rules.{rules}
 use Rattle.native.proofs.retain_nodes.retain_unmarked.Goals as goal
 
 pub retain_unmarked_in_graph-requires : goal.retain_unmarked_in_graph-requires

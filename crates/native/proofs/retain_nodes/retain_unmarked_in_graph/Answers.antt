@@ -1,7 +1,6 @@
 use mathlib.Core.Path.{sym, ◌∙◌}
 use Rattle.graph.proofs.Grown.{graph_facts}
 use Rattle.native.specs.Retain.{kept, retention, retain_in_graph}
-use borrow.Author.Rules.{rules}
 use Rattle.native.proofs.retain_nodes.retain_unmarked_in_graph.Goals as goal
 
 pub is_keep_list-requires : goal.is_keep_list-requires

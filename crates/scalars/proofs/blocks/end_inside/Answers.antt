@@ -38,15 +38,18 @@ perform_in_graph-step-requires c = grown-is_graph c.requires
 
 pub returns-in-Line : goal.returns-in-Line
 returns-in-Line c =
-    on-leaves _ _ _ _ _ _ _ c.out-1.given (λ i. omega (arith, c.shared_slice_known-1.given i)) c.requires _
-    (rw c.in-Line.is at c.perform_in_graph-step.ensures)
+    let l = on-leaves _ _ _ _ _ _ _ c.out-1.given (λ i. omega (arith, c.shared_slice_known-1.given i)) c.requires _
+    (rw c.in-Line.is at c.perform_in_graph-step.ensures) in
+    record { upper_bound = l.0; grown = l.1 }
 
 pub returns-in-Last : goal.returns-in-Last
 returns-in-Last c =
-    last-leaves _ _ _ _ _ _ _ c.out-1.given (λ i. omega (arith, c.shared_slice_known-1.given i)) c.requires _
-    (rw c.in-Last.is at c.perform_in_graph-step.ensures)
+    let l = last-leaves _ _ _ _ _ _ _ c.out-1.given (λ i. omega (arith, c.shared_slice_known-1.given i)) c.requires _
+    (rw c.in-Last.is at c.perform_in_graph-step.ensures) in
+    record { upper_bound = l.0; grown = l.1 }
 
 pub returns-in-NoRoom : goal.returns-in-NoRoom
 returns-in-NoRoom c =
-    full-leaves _ _ _ _ _ _ _ c.out-1.given (λ i. omega (arith, c.shared_slice_known-1.given i)) c.requires
-    (rw c.in-NoRoom.is at c.perform_in_graph-step.ensures)
+    let l = full-leaves _ _ _ _ _ _ _ c.out-1.given (λ i. omega (arith, c.shared_slice_known-1.given i)) c.requires
+    (rw c.in-NoRoom.is at c.perform_in_graph-step.ensures) in
+    record { upper_bound = l.0; grown = l.1 }

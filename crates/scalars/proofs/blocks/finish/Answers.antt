@@ -30,3 +30,12 @@ overflow_add-at c =
     let part = take (length out - first.result) (drop first.result out) in
     let l = fits (leb LINE (length part)) part (nodes_line c.count.result) _ _ c.put_nodes-end.ensures.value c.put_nodes-end.ensures.line_after c.put_nodes-end.auto.line in
     omega (arith, rw part_from at l, length-drop first.result out)
+
+pub slice_bounds-write_all-end : goal.slice_bounds-write_all-end
+slice_bounds-write_all-end c =
+    let first = c.end_inside-at in
+    let out = first.new.out in
+    let part = take (length out - first.result) (drop first.result out) in
+    let l = fits (leb LINE (length part)) part (nodes_line c.count.result) _ _ c.put_nodes-end.ensures.value c.put_nodes-end.ensures.line_after c.put_nodes-end.auto.line in
+    omega (arith, rw part_from at l, length-drop first.result out)
+

@@ -17,6 +17,9 @@ returns-in_default c = record {
   unwritten = refl;
 }
 
+pub slice_bounds-perform_in_graph-end : goal.slice_bounds-perform_in_graph-end
+slice_bounds-perform_in_graph-end c = omega (arith, (first_of _ _ (sym c.first_length-first.ensures ∙ ap length_of c.in-Some.is)).within)
+
 pub perform_in_graph-step-requires : goal.perform_in_graph-step-requires
 perform_in_graph-step-requires c = grown-is_graph c.requires
 
