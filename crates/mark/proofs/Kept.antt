@@ -5,7 +5,6 @@ use mathlib.Core.List.{List}
 use Prim.Native.Nat.{ℕ, ◌+◌}
 use borrow.Author.Tests.{ltb-true}
 use lib.Dec.{ltb}
-use lib.ListN.{length}
 use Rattle.graph.specs.Layout.{count_of}
 use Rattle.retain.specs.Retain.{is_keep_list, retained}
 use Rattle.retain.proofs.Grown.{retained-graph}

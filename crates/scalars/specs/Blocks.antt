@@ -1,5 +1,5 @@
 -- Records in blocks of bytes: what a run over the records at the start of a block leaves.
-use Rattle.std.specs.Prelude.{Bool, true, false, List, [], ◌∷◌, ◌++◌, ◌⊎◌, ◌≡◌, ℕ, ◌+◌, ◌≤◌, ◌<◌, length, take, drop}
+use Rattle.std.specs.Prelude.{Bool, true, false, List, [], ◌∷◌, ◌++◌, ◌⊎◌, ◌≡◌, ℕ, ◌≤◌, ◌<◌, length, take, drop}
 use Rattle.std.proofs.Math.Option.{none, some}
 use Rattle.record.specs.Record.{first_length}
 use Rattle.record.specs.Line.{LINE}

@@ -1,6 +1,5 @@
 -- `record_vectors::length_of` meets its contract: each element is a byte, so that the sums fit. Assumes nothing.
 use native.Mathlib.Omega.{arith}
-use borrow.Author.Rules.{rules}
 use Rattle.record_vectors.proofs.length_of.Goals as goal
 
 pub overflow_cast-result : goal.overflow_cast-result

@@ -2,7 +2,6 @@
 -- The measure is what is left of `stream`. Assumes nothing.
 use Prim.Native.Nat.{◌≤◌, ◌-◌}
 use mathlib.Core.Path.{◌≡◌}
-use borrow.Author.Rules.{rules}
 use lib.ListN.{length}
 use Rattle.record_vectors.proofs.put_lines.Given as goal
 

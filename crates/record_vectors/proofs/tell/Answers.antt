@@ -1,5 +1,4 @@
 -- `record_vectors::tell` meets its contract: a step's line fits the slice lent for it (`went_on`, `ended`). Assumes nothing.
-use borrow.Author.Rules.{rules}
 use Rattle.record.specs.Perform.{effect_call, record_call}
 use Rattle.record.proofs.Within.{went_on, ended}
 use Rattle.record_vectors.proofs.tell.Goals as goal

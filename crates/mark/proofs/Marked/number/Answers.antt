@@ -1,4 +1,3 @@
-use borrow.Author.Rules.{rules}
 use Rattle.mark.proofs.Marked.number.Goals as goal
 
 pub returns-in-Refused : goal.returns-in-Refused

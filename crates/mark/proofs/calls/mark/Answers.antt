@@ -1,4 +1,3 @@
-use borrow.Author.Rules.{rules}
 use mathlib.Core.Path.{sym, ◌∙◌}
 use Rattle.mark.specs.Mark.{mark_call}
 use Rattle.mark.proofs.calls.mark.Goals as goal

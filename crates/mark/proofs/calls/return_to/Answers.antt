@@ -1,4 +1,3 @@
-use borrow.Author.Rules.{rules}
 use mathlib.Core.Path.{sym, ◌∙◌}
 use Rattle.mark.specs.Mark.{return_call}
 use Rattle.mark.proofs.calls.return_to.Goals as goal

@@ -1,4 +1,3 @@
-use borrow.Author.Rules.{rules}
 use Rattle.mark.proofs.retain_nodes.drop_marks.Goals as goal
 
 pub returns-in-Kept : goal.returns-in-Kept

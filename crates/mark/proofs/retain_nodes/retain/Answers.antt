@@ -1,4 +1,3 @@
-use borrow.Author.Rules.{rules}
 use mathlib.Core.Path.{sym, ◌∙◌}
 use Rattle.mark.specs.Mark.{retain_call}
 use Rattle.mark.proofs.retain_nodes.retain.Goals as goal

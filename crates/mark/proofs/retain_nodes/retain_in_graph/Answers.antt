@@ -1,4 +1,3 @@
-use borrow.Author.Rules.{rules}
 use mathlib.Core.Path.{ap, ◌∙◌}
 use Rattle.native.specs.Retain.{Retention}
 use Rattle.mark.specs.Mark.{unmarked, retaining, retain_in_graph}

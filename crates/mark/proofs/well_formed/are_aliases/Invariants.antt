@@ -1,12 +1,8 @@
-use mathlib.Core.Path.{◌≡◌, refl, sym, ap, ◌∙◌}
+use mathlib.Core.Path.{◌≡◌}
 use mathlib.Core.Bool.{true}
 use Prim.Native.Nat.{◌-◌, ◌≤◌}
-use native.Mathlib.Omega.{arith}
-use borrow.Author.Tests.{not-true, not-false}
-use borrow.Author.Rules.{rules}
 use lib.ListN.{get_or}
 use Rattle.graph.specs.WellFormed.{is_alias, all_pass}
-use Rattle.graph.proofs.Tests.{pass_on, pass_off}
 use Rattle.mark.proofs.well_formed.are_aliases.Given as goal
 
 abbrev pub invariant-loop-n : goal.invariant-loop-n

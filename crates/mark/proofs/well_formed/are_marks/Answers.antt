@@ -1,9 +1,7 @@
 use mathlib.Core.Path.{◌≡◌, sym, ap, ◌∙◌}
-use Prim.Native.Nat.{◌-◌, ◌≤◌}
+use Prim.Native.Nat.{◌-◌}
 use native.Mathlib.Omega.{arith}
 use borrow.Author.Tests.{eq-eqb, ne_eqb, lt-leb}
-use Rattle.graph.specs.Layout.{LIMIT}
-use Rattle.mark.specs.Layout.{MOST}
 use Rattle.mark.specs.WellFormed.{are_first, are_marks}
 use Rattle.mark.proofs.Facts.{first_on, first_off, mark_fewer, marks_are}
 use Rattle.mark.proofs.well_formed.are_marks.Goals as goal

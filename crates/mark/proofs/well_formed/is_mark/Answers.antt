@@ -1,5 +1,4 @@
 use native.Mathlib.Nat.{add-sub_cancel_left}
-use borrow.Author.Rules.{rules}
 use borrow.Author.Tests.{lt-leb, le-leb}
 use Rattle.mark.proofs.well_formed.is_mark.Goals as goal
 

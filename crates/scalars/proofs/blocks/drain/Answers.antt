@@ -1,9 +1,5 @@
-use mathlib.Core.Path.{◌≡◌}
-use Prim.Native.Nat.{◌≤◌, ◌-◌}
 use borrow.Author.Rules.{rules}
 use native.Mathlib.Omega.{arith}
-use lib.ListN.{length}
-use Rattle.meaning.specs.Program.{Grown}
 use Rattle.scalars.proofs.blocks.drain.Goals as goal
 
 pub loop-stdout-preserved : goal.loop-stdout-preserved

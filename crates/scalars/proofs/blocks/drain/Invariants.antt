@@ -2,8 +2,6 @@
 -- The measure is what is left of the block. Assumes nothing.
 use mathlib.Core.Path.{◌≡◌}
 use Prim.Native.Nat.{◌≤◌, ◌-◌}
-use borrow.Author.Rules.{rules}
-use native.Mathlib.Omega.{arith}
 use lib.ListN.{length}
 use Rattle.meaning.specs.Program.{Grown}
 use Rattle.scalars.proofs.blocks.drain.Given as goal

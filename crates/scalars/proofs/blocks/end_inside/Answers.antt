@@ -9,7 +9,6 @@ use Rattle.record.specs.Perform.{Effect, goes_on, ends, no_room, left, effect_in
 use Rattle.record.proofs.Within.{went_on, ended, had_no_room}
 use Rattle.meaning.specs.Program.{Grown}
 use Rattle.meaning.proofs.Program.{grown-is_graph, grown-effect}
-use borrow.Author.Rules.{rules}
 use Rattle.scalars.proofs.blocks.end_inside.Goals as goal
 
 -- what a step on a grown graph leaves

@@ -2,7 +2,7 @@
 use mathlib.Core.Bool.{Bool, true, false, cond}
 use mathlib.Core.List.{List}
 use mathlib.Core.Path.{◌≡◌}
-use Prim.Native.Nat.{ℕ, ◌+◌, ◌-◌, ◌≤◌}
+use Prim.Native.Nat.{ℕ, ◌-◌, ◌≤◌}
 use native.Mathlib.Omega.{arith}
 use lib.Dec.{leb}
 use lib.ListN.{length, take, drop, length-drop}
@@ -12,7 +12,6 @@ use Rattle.record.specs.Line.{LINE, nodes_line}
 use Rattle.record.proofs.Parts.{part_from}
 use Rattle.record.proofs.Within.{placed-fits}
 use Rattle.meaning.proofs.Program.{grown-is_graph}
-use borrow.Author.Rules.{rules}
 use Rattle.scalars.proofs.blocks.finish.Goals as goal
 
 -- a text that is placed at the start of a slice, or not, fits it
@@ -38,4 +37,3 @@ slice_bounds-write_all-end c =
     let part = take (length out - first.result) (drop first.result out) in
     let l = fits (leb LINE (length part)) part (nodes_line c.count.result) _ _ c.put_nodes-end.ensures.value c.put_nodes-end.ensures.line_after c.put_nodes-end.auto.line in
     omega (arith, rw part_from at l, length-drop first.result out)
-

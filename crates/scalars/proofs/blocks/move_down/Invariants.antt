@@ -2,9 +2,7 @@
 -- The measure is what is left to move. Assumes nothing.
 use Prim.Native.Nat.{◌≤◌, ◌+◌, ◌-◌}
 use mathlib.Core.Path.{◌≡◌}
-use borrow.Author.Rules.{rules}
-use native.Mathlib.Omega.{arith}
-use lib.ListN.{length, length-set}
+use lib.ListN.{length}
 use Rattle.scalars.proofs.blocks.move_down.Given as goal
 
 abbrev pub invariant-loop-i : goal.invariant-loop-i

@@ -6,7 +6,6 @@ use native.Mathlib.Omega.{arith}
 use Rattle.record.specs.Record.{length_of}
 use Rattle.meaning.proofs.Program.{grown-is_graph}
 use Rattle.scalars.proofs.Through.{first_of, wrote_on, wrote_last, waits_full}
-use borrow.Author.Rules.{rules}
 use Rattle.scalars.proofs.blocks.run_one.Goals as goal
 
 pub returns-in_default : goal.returns-in_default

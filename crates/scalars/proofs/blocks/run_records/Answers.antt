@@ -1,11 +1,6 @@
-use mathlib.Core.Bool.{false}
-use mathlib.Core.Path.{◌≡◌, refl, ◌∙◌}
-use Prim.Native.Nat.{◌-◌}
+use mathlib.Core.Path.{refl, ◌∙◌}
 use native.Mathlib.Omega.{arith}
-use borrow.Author.Rules.{rules}
-use lib.ListN.{length}
 use Rattle.record.specs.Record.{Bytes}
-use Rattle.scalars.specs.Blocks.{Through}
 use Rattle.scalars.proofs.Through.{through-none, through_turn, turn_reads, through_waits, stops_waits}
 use Rattle.scalars.proofs.blocks.run_records.Goals as goal
 
@@ -59,10 +54,10 @@ pub returns-in-Last : goal.returns-in-Last
 returns-in-Last c =
     let b : Bytes c.args.input.now = λ k. omega (arith, c.shared_slice_known-1.given k) in
     let o = rw c.in-Last.is at c.run_one-one.ensures in
-    (through_turn b c.loop-k.invariant.0 c.loop-k.invariant.3 o, tt)
+    record { through = through_turn b c.loop-k.invariant.0 c.loop-k.invariant.3 o; stops = tt }
 
 pub returns-in-Nothing : goal.returns-in-Nothing
 returns-in-Nothing c =
     let b : Bytes c.args.input.now = λ k. omega (arith, c.shared_slice_known-1.given k) in
     let o = rw c.in-Nothing.is at c.run_one-one.ensures in
-    (through_waits b c.loop-k.invariant.0 c.loop-k.invariant.3 o, stops_waits b c.loop-k.invariant.0 c.loop-k.invariant.3 o)
+    record { through = through_waits b c.loop-k.invariant.0 c.loop-k.invariant.3 o; stops = stops_waits b c.loop-k.invariant.0 c.loop-k.invariant.3 o }

@@ -1,13 +1,9 @@
 -- `scalars::blocks::run_records` meets its contract: the invariant is that the records so far were run. Assumes nothing.
 use mathlib.Core.Bool.{false}
-use mathlib.Core.Path.{◌≡◌, refl, ◌∙◌}
+use mathlib.Core.Path.{◌≡◌}
 use Prim.Native.Nat.{◌-◌}
-use native.Mathlib.Omega.{arith}
-use borrow.Author.Rules.{rules}
 use lib.ListN.{length}
-use Rattle.record.specs.Record.{Bytes}
 use Rattle.scalars.specs.Blocks.{Through}
-use Rattle.scalars.proofs.Through.{through-none, through_turn, turn_reads, through_waits, stops_waits}
 use Rattle.scalars.proofs.blocks.run_records.Given as goal
 
 abbrev pub invariant-loop-k : goal.invariant-loop-k
