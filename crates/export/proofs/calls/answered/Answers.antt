@@ -1,6 +1,5 @@
 use Rattle.export.specs.Export.{exported, numbered}
 use mathlib.Core.Path.{ap, ◌∙◌}
-use borrow.Author.Rules.{rules}
 use Rattle.export.proofs.calls.answered.Goals as goal
 
 pub returns : goal.returns

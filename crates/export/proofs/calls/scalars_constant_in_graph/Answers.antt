@@ -1,6 +1,5 @@
 -- The request is the one that the numbers name.
 use Rattle.word.specs.Value.{val}
-use borrow.Author.Rules.{rules}
 use Rattle.export.proofs.calls.scalars_constant_in_graph.Goals as goal
 
 pub returns : goal.returns

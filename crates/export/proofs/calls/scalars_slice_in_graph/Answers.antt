@@ -1,5 +1,4 @@
 -- The request is the one that the numbers name.
-use borrow.Author.Rules.{rules}
 use Rattle.export.proofs.calls.scalars_slice_in_graph.Goals as goal
 
 pub returns : goal.returns

@@ -1,4 +1,3 @@
-use borrow.Author.Rules.{rules}
 use Rattle.export.proofs.marks.scalars_is_marked.Goals as goal
 
 pub returns : goal.returns

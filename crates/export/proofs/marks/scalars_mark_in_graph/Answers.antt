@@ -1,4 +1,3 @@
-use borrow.Author.Rules.{rules}
 use mathlib.Core.Path.{ap, ◌∙◌}
 use Rattle.mark.specs.Mark.{mark_number, Marking}
 use Rattle.export.proofs.marks.scalars_mark_in_graph.Goals as goal

@@ -1,4 +1,3 @@
-use borrow.Author.Rules.{rules}
 use mathlib.Core.Path.{ap, ◌∙◌}
 use Rattle.native.specs.Call.{answer_number}
 use Rattle.mark.specs.Mark.{Returning}

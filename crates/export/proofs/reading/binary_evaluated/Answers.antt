@@ -1,6 +1,5 @@
 use Rattle.export.specs.Reading.{binary_evaluated}
 use borrow.Author.Tests.{le-leb, lt-leb}
-use borrow.Author.Rules.{rules}
 use Rattle.export.proofs.reading.binary_evaluated.Goals as goal
 
 pub returns-then-width-gt-WIDEST_WORD : goal.returns-then-width-gt-WIDEST_WORD

@@ -1,12 +1,9 @@
 -- `copy_node` meets its contract: after k turns the first k words are pasted.
-use mathlib.Core.Path.{◌≡◌, refl, sym, ap, ◌∙◌}
-use mathlib.Core.List.{List, ◌++◌, append-nil}
-use Prim.Native.Nat.{ℕ, suc, ◌+◌, ◌-◌, ◌≤◌}
-use native.Mathlib.Omega.{arith}
-use borrow.Author.Rules.{rules}
-use lib.ListN.{length, length-set, length-drop, get_or, set, take, drop}
-use lib.Seq.{paste, paste-zero, paste-suc, get_or-drop, drop-length}
-use Rattle.graph.specs.Layout.{WORDS, REGION, node_start}
+use mathlib.Core.Path.{◌≡◌}
+use Prim.Native.Nat.{◌-◌, ◌≤◌}
+use lib.ListN.{length, drop}
+use lib.Seq.{paste}
+use Rattle.graph.specs.Layout.{WORDS, node_start}
 use Rattle.export.proofs.reading.copy_node.Given as goal
 
 abbrev pub invariant-loop-k : goal.invariant-loop-k

@@ -1,7 +1,6 @@
 use Rattle.export.specs.Reading.{guard_by_number}
 use Rattle.graph.proofs.Grown.{graph_facts}
 use borrow.Author.Tests.{lt-ltb, le-ltb}
-use borrow.Author.Rules.{rules}
 use Rattle.export.proofs.reading.guard_by_number.Goals as goal
 
 pub count-requires : goal.count-requires

@@ -4,7 +4,6 @@ use Rattle.export.specs.Reading.{masked}
 use borrow.Author.Tests.{le-leb, lt-leb}
 use mathlib.Core.Path.{◌≡◌, ap, ◌∙◌}
 use native.Mathlib.Omega.{arith}
-use borrow.Author.Rules.{rules}
 use Rattle.export.proofs.reading.mask_of.Goals as goal
 
 pub returns-then-width-le-WIDEST_WORD : goal.returns-then-width-le-WIDEST_WORD

@@ -1,7 +1,6 @@
 use Rattle.export.proofs.Five.{five_words}
 use lib.ListN.{length-set}
 use native.Mathlib.Omega.{arith}
-use borrow.Author.Rules.{rules}
 use Rattle.export.proofs.reading.put_guard.Goals as goal
 
 pub bounds-out-4 : goal.bounds-out-4

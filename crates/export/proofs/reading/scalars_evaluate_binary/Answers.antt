@@ -1,5 +1,4 @@
 use Rattle.word.specs.Value.{val}
-use borrow.Author.Rules.{rules}
 use Rattle.export.proofs.reading.scalars_evaluate_binary.Goals as goal
 
 pub returns : goal.returns

@@ -1,7 +1,6 @@
 use Rattle.export.specs.Export.{exported}
 use Rattle.export.specs.Reading.{guard_numbered}
 use mathlib.Core.Path.{sym, ◌∙◌}
-use borrow.Author.Rules.{rules}
 use Rattle.export.proofs.reading.scalars_guard.Goals as goal
 
 pub scalars_guard_in_graph-requires : goal.scalars_guard_in_graph-requires

@@ -1,4 +1,3 @@
-use borrow.Author.Rules.{rules}
 use Rattle.export.proofs.reading.scalars_literal.Goals as goal
 
 pub returns : goal.returns

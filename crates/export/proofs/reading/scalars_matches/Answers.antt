@@ -1,7 +1,6 @@
 use Rattle.word.specs.Value.{val}
 use Rattle.export.specs.Reading.{match_number, matches_by_code}
 use mathlib.Core.Path.{ap, ◌∙◌}
-use borrow.Author.Rules.{rules}
 use Rattle.export.proofs.reading.scalars_matches.Goals as goal
 
 pub returns-in_default : goal.returns-in_default

@@ -1,7 +1,6 @@
 use Rattle.export.specs.Export.{exported}
 use Rattle.export.specs.Reading.{node_call}
 use mathlib.Core.Path.{sym, ◌∙◌}
-use borrow.Author.Rules.{rules}
 use Rattle.export.proofs.reading.scalars_node.Goals as goal
 
 pub scalars_node_in_graph-requires : goal.scalars_node_in_graph-requires

@@ -5,7 +5,6 @@ use Rattle.graph.specs.Layout.{WORDS}
 use borrow.Author.Tests.{lt-ltb, le-ltb, eq-eqb, ne_eqb}
 use mathlib.Core.Path.{ap}
 use native.Mathlib.Nat.{lt_of_lt_of_le}
-use borrow.Author.Rules.{rules}
 use Rattle.export.proofs.reading.scalars_node_in_graph.Goals as goal
 
 pub count-requires : goal.count-requires

@@ -1,6 +1,5 @@
 use Rattle.native.specs.Call.{answer_number}
 use mathlib.Core.Path.{ap, ◌∙◌}
-use borrow.Author.Rules.{rules}
 use Rattle.export.proofs.reading.scalars_resolve.Goals as goal
 
 pub returns : goal.returns

@@ -1,6 +1,5 @@
 use Rattle.export.specs.Reading.{unary_evaluated}
 use borrow.Author.Tests.{le-leb, lt-leb}
-use borrow.Author.Rules.{rules}
 use Rattle.export.proofs.reading.unary_evaluated.Goals as goal
 
 pub returns-then-parameter-gt-WIDEST_WORD : goal.returns-then-parameter-gt-WIDEST_WORD

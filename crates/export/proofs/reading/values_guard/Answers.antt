@@ -1,4 +1,3 @@
-use borrow.Author.Rules.{rules}
 use Rattle.export.proofs.reading.values_guard.Goals as goal
 
 pub returns-in_default : goal.returns-in_default

@@ -1,7 +1,6 @@
 use Rattle.export.specs.Export.{exported}
 use borrow.Author.Tests.{eq-eqb, ne_eqb}
 use mathlib.Core.Path.{ap}
-use borrow.Author.Rules.{rules}
 use Rattle.export.proofs.reading.write_guard.Goals as goal
 
 pub returns-then-out-ne5 : goal.returns-then-out-ne5

@@ -1,5 +1,4 @@
 use Rattle.export.specs.Numbers.{constant_by_code}
-use borrow.Author.Rules.{rules}
 use Rattle.export.proofs.requests.constant_request.Goals as goal
 
 pub returns-in-Some : goal.returns-in-Some

@@ -1,5 +1,4 @@
 use Rattle.export.specs.Numbers.{guard_by_numbers}
-use borrow.Author.Rules.{rules}
 use Rattle.export.proofs.requests.guard_request.Goals as goal
 
 pub returns-in-Some : goal.returns-in-Some

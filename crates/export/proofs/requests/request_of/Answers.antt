@@ -1,5 +1,4 @@
 use Rattle.word.specs.Value.{val}
-use borrow.Author.Rules.{rules}
 use Rattle.export.proofs.requests.request_of.Goals as goal
 
 pub returns-in-Constant : goal.returns-in-Constant

@@ -1,5 +1,4 @@
 use Rattle.export.specs.Numbers.{slice_by_numbers}
-use borrow.Author.Rules.{rules}
 use Rattle.export.proofs.requests.slice_request.Goals as goal
 
 pub returns : goal.returns

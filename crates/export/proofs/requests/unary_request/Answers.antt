@@ -1,5 +1,4 @@
 use Rattle.export.specs.Numbers.{unary_by_codes}
-use borrow.Author.Rules.{rules}
 use Rattle.export.proofs.requests.unary_request.Goals as goal
 
 pub returns-in_default : goal.returns-in_default

@@ -1,6 +1,5 @@
 -- `record::decode::concat_low_width` meets its contract: a byte is read, and the rest is handed on. Assumes nothing.
 use native.Mathlib.Omega.{arith}
-use borrow.Author.Rules.{rules}
 use borrow.Author.Tests.{le-leb, lt-leb}
 use Rattle.record.proofs.Parts.{part_from}
 use Rattle.record.proofs.decode.concat_low_width.Goals as goal

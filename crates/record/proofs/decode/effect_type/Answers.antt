@@ -1,5 +1,4 @@
 -- `record::decode::effect_type` meets its contract: the type is the last field. Assumes nothing.
-use borrow.Author.Rules.{rules}
 use borrow.Author.Tests.{eq-eqb, ne_eqb}
 use Rattle.record.proofs.decode.effect_type.Goals as goal
 

@@ -1,5 +1,4 @@
 -- `record::decode::guard_expected` meets its contract: the flag is the last byte. Assumes nothing.
-use borrow.Author.Rules.{rules}
 use borrow.Author.Tests.{eq-eqb, ne_eqb}
 use Rattle.record.proofs.decode.guard_expected.Goals as goal
 

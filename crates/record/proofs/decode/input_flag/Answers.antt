@@ -1,5 +1,4 @@
 -- `record::decode::input_flag` meets its contract: a flag is read, and the rest is handed on. Assumes nothing.
-use borrow.Author.Rules.{rules}
 use borrow.Author.Tests.{eq-eqb, le-leb, lt-leb, ne_eqb}
 use Rattle.record.proofs.Parts.{part_from}
 use Rattle.record.proofs.decode.input_flag.Goals as goal

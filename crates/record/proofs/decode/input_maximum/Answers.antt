@@ -1,5 +1,4 @@
 -- `record::decode::input_maximum` meets its contract: the last number is read. Assumes nothing.
-use borrow.Author.Rules.{rules}
 use borrow.Author.Tests.{eq-eqb, ne_eqb}
 use Rattle.record.proofs.decode.input_maximum.Goals as goal
 

@@ -1,5 +1,4 @@
 -- `record::decode::range_low` meets its contract: a number is read, and the rest is handed on. Assumes nothing.
-use borrow.Author.Rules.{rules}
 use borrow.Author.Tests.{le-leb, lt-leb}
 use Rattle.record.proofs.Parts.{part_from}
 use Rattle.record.proofs.decode.range_low.Goals as goal

@@ -1,6 +1,5 @@
 -- `record::decode::slice_width` meets its contract: the last byte is read. Assumes nothing.
 use native.Mathlib.Omega.{arith}
-use borrow.Author.Rules.{rules}
 use borrow.Author.Tests.{eq-eqb, ne_eqb}
 use Rattle.record.proofs.decode.slice_width.Goals as goal
 

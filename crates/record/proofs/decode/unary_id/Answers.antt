@@ -1,5 +1,4 @@
 -- `record::decode::unary_id` meets its contract: the last number is read. Assumes nothing.
-use borrow.Author.Rules.{rules}
 use borrow.Author.Tests.{eq-eqb, ne_eqb}
 use Rattle.record.proofs.decode.unary_id.Goals as goal
 

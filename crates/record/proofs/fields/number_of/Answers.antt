@@ -1,8 +1,7 @@
-use Prim.Native.Nat.{ℕ, suc, ◌+◌, ◌-◌, ◌*◌, ◌≤◌}
+use Prim.Native.Nat.{ℕ, suc, ◌+◌, ◌-◌, ◌*◌}
 use mathlib.Core.Path.{◌≡◌, sym, ◌∙◌, ap}
 use native.Mathlib.Omega.{arith}
-use borrow.Author.Rules.{rules}
-use lib.ListN.{length, get_or, drop, length-drop}
+use lib.ListN.{get_or, drop, length-drop}
 use lib.Seq.{drop-length}
 use Rattle.record.specs.Record.{little}
 use Rattle.record.proofs.Little.{bytes_drop, little_step, little_below}

@@ -1,12 +1,8 @@
 -- `record::fields::number_of` meets its contract: the invariant is that the bytes from `i` on are read. Assumes nothing.
-use Prim.Native.Nat.{ℕ, suc, ◌+◌, ◌-◌, ◌*◌, ◌≤◌}
-use mathlib.Core.Path.{◌≡◌, sym, ◌∙◌, ap}
-use native.Mathlib.Omega.{arith}
-use borrow.Author.Rules.{rules}
-use lib.ListN.{length, get_or, drop, length-drop}
-use lib.Seq.{drop-length}
+use Prim.Native.Nat.{◌≤◌}
+use mathlib.Core.Path.{◌≡◌}
+use lib.ListN.{length, drop}
 use Rattle.record.specs.Record.{little}
-use Rattle.record.proofs.Little.{bytes_drop, little_step, little_below}
 use Rattle.record.proofs.fields.number_of.Given as goal
 
 abbrev pub invariant-loop-i : goal.invariant-loop-i

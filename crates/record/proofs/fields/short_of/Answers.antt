@@ -1,6 +1,5 @@
 -- `record::fields::short_of` meets its contract: two bytes are below 65536. Assumes nothing.
 use native.Mathlib.Omega.{arith}
-use borrow.Author.Rules.{rules}
 use Rattle.record.proofs.Little.{little_below}
 use Rattle.record.proofs.fields.short_of.Goals as goal
 

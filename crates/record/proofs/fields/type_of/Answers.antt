@@ -1,5 +1,4 @@
 -- `record::fields::type_of` meets its contract: the bytes are widened. Assumes nothing.
-use borrow.Author.Rules.{rules}
 use Rattle.record.proofs.fields.type_of.Goals as goal
 
 pub returns : goal.returns

@@ -1,6 +1,5 @@
 -- `record::fields::word_of` meets its contract: two halves make a word. Assumes nothing.
 use native.Mathlib.Omega.{arith}
-use borrow.Author.Rules.{rules}
 use lib.ListN.{drop, length-drop}
 use lib.Seq.{take_all}
 use Rattle.word.specs.Value.{val}

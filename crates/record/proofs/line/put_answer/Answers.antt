@@ -1,5 +1,4 @@
 -- `record::line::put_answer` meets its contract: one case for each answer. Assumes nothing.
-use borrow.Author.Rules.{rules}
 use Rattle.record.proofs.line.put_answer.Goals as goal
 
 pub returns-in-Id : goal.returns-in-Id

@@ -1,7 +1,6 @@
 -- `record::line::put_nodes` meets its contract: a line where there is room for one. Assumes nothing.
 use mathlib.Core.Path.{refl}
 use borrow.Author.Tests.{le-leb, lt-leb}
-use borrow.Author.Rules.{rules}
 use Rattle.record.proofs.line.put_nodes.Goals as goal
 
 pub returns-then-line-lt-LINE : goal.returns-then-line-lt-LINE

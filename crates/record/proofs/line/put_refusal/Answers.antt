@@ -1,5 +1,4 @@
 -- `record::line::put_refusal` meets its contract: the number is that of the refusal. Assumes nothing.
-use borrow.Author.Rules.{rules}
 use Rattle.record.proofs.line.put_refusal.Goals as goal
 
 pub returns : goal.returns

@@ -1,5 +1,4 @@
 -- `record::line::put_retained` meets its contract: one case for each outcome. Assumes nothing.
-use borrow.Author.Rules.{rules}
 use Rattle.record.proofs.line.put_retained.Goals as goal
 
 pub returns-in-Kept : goal.returns-in-Kept

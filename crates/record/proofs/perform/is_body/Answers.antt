@@ -1,6 +1,5 @@
 -- `record::perform::is_body` meets its contract: a retain, or a request. Assumes nothing.
 use borrow.Author.Tests.{eq-eqb, ne_eqb}
-use borrow.Author.Rules.{rules}
 use Rattle.record.proofs.perform.is_body.Goals as goal
 
 pub returns-then-tag-eq-RETAIN : goal.returns-then-tag-eq-RETAIN

@@ -3,7 +3,6 @@ use mathlib.Core.Path.{sym, ap, ◌∙◌}
 use Rattle.record.specs.Record.{tag_of, asked}
 use Rattle.record.proofs.Parts.{part_from}
 use Rattle.record.proofs.Steps.{tag_header}
-use borrow.Author.Rules.{rules}
 use Rattle.record.proofs.perform.is_record.Goals as goal
 
 pub slice_bounds-is_body-count : goal.slice_bounds-is_body-count

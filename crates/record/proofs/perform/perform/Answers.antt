@@ -3,7 +3,6 @@ use mathlib.Core.Path.{sym, ◌∙◌}
 use borrow.Author.Tests.{lt-leb}
 use Rattle.record.specs.Perform.{record_call}
 use Rattle.record.proofs.Steps.{record_in_graph_lem, record_refused, record_bad}
-use borrow.Author.Rules.{rules}
 use Rattle.record.proofs.perform.perform.Goals as goal
 
 pub perform_in_graph-requires : goal.perform_in_graph-requires

@@ -2,7 +2,6 @@
 use borrow.Author.Tests.{eq-eqb, ne_eqb}
 use Rattle.record.specs.Perform.{done_by}
 use Rattle.record.proofs.Steps.{answered_step, kept_step, bad_step}
-use borrow.Author.Rules.{rules}
 use Rattle.record.proofs.perform.perform_body.Goals as goal
 
 pub returns-then-tag-eq-RETAIN : goal.returns-then-tag-eq-RETAIN

@@ -5,7 +5,6 @@ use Rattle.record.specs.Record.{tag_of, asked}
 use Rattle.record.specs.Perform.{done_by, effect_in_graph, record_in_graph}
 use Rattle.record.proofs.Parts.{part_from}
 use Rattle.record.proofs.Steps.{tag_header, bad_step}
-use borrow.Author.Rules.{rules}
 use Rattle.record.proofs.perform.perform_in_graph.Goals as goal
 
 pub returns-then-line-lt-LINE : goal.returns-then-line-lt-LINE

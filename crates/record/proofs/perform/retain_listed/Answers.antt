@@ -3,7 +3,6 @@ use mathlib.Core.Path.{ap}
 use native.Mathlib.Nat.{sub-zero}
 use Rattle.graph.proofs.Grown.{graph_facts}
 use Rattle.record.specs.Perform.{widened}
-use borrow.Author.Rules.{rules}
 use Rattle.record.proofs.perform.retain_listed.Goals as goal
 
 pub count-requires : goal.count-requires

@@ -1,6 +1,5 @@
 -- `record::perform::tag_in` meets its contract: the body has just the length that the header says, or there is no tag. Assumes nothing.
 use borrow.Author.Tests.{eq-eqb, ne_eqb, le-leb, lt-leb}
-use borrow.Author.Rules.{rules}
 use Rattle.record.proofs.perform.tag_in.Goals as goal
 
 pub returns-then-bytes-lt-HEADER : goal.returns-then-bytes-lt-HEADER
