@@ -13,7 +13,7 @@ fn main() {
     println!("cargo::rerun-if-changed={}", archive.display());
     if !archive.exists() {
         println!(
-            "cargo::warning=no {}: run `rt staticlib export` in the repository, or set LIBRARY",
+            "cargo::warning=no {}: run `./staticlib` in the repository, or set LIBRARY",
             archive.display()
         );
         return;

@@ -1,7 +1,7 @@
 #!/usr/bin/env python3
 """Instructions of each builder's call, of guards, retain and the slowest slices, on both sides, by callgrind, as a table.
 
-    rt staticlib export
+    ./staticlib
     cargo build --release --offline --manifest-path tests/driver/Cargo.toml
     python3 tests/driver/counts.py tests/driver/target/release/driver
 """

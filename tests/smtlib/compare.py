@@ -22,12 +22,12 @@ UNARY = ("bvnot", "bvneg")
 BINARY = ("bvand", "bvor", "bvxor", "bvadd", "bvsub", "bvmul", "bvudiv", "bvurem", "bvsdiv", "bvsrem")
 SHIFTS = ("bvshl", "bvlshr", "bvashr")
 ORDERS = ("bvult", "bvule", "bvslt", "bvsle")
-EXTENSIONS = ("zero-extend", "sign-extend")
+EXTENSIONS = ("zero_extend", "sign_extend")
 
 OPERATORS = ("concat", "extract") + UNARY + BINARY + SHIFTS + ORDERS + EXTENSIONS
 
 # Definitions that are no operators of SMT-LIB.
-INNER = ("msb", "bySigns", "ordered")
+INNER = ("msb", "by_signs", "ordered")
 
 
 @dataclass(frozen=True)
@@ -109,7 +109,7 @@ def extension_cases(name, width):
     """By 0 to 4 bits at a small width, by up to 128 at a large one."""
     for s in singles(width):
         for i in range(5) if width in SMALL else [random.randrange(129)]:
-            term = f"((_ {name.replace('-', '_')} {i}) {numeral(s, width)})"
+            term = f"((_ {name} {i}) {numeral(s, width)})"
             yield Case(name, bits(width + i), {"m": width, "i": i, "s": s}, term)
 
 
@@ -169,7 +169,7 @@ def row(definitions, name):
         asked = [case for width in widths for case in cases(name, width)]
         found += differing(definitions, asked)
         counts.append(len(asked))
-    line = f"| `{name.replace('-', '_')}` | {counts[0]} | {counts[1]} | {len(found)} |"
+    line = f"| `{name}` | {counts[0]} | {counts[1]} | {len(found)} |"
     return line, found, sum(counts)
 
 

@@ -72,9 +72,9 @@ APPLY = {
 
 # What the file brings in by its `use` lines.
 LIBRARY = {
-    "bitAnd": lambda a, b: a & b,
-    "bitOr": lambda a, b: a | b,
-    "bitXor": lambda a, b: a ^ b,
+    "bit_and": lambda a, b: a & b,
+    "bit_or": lambda a, b: a | b,
+    "bit_xor": lambda a, b: a ^ b,
     "eqb": lambda a, b: a == b,
     "ltb": lambda a, b: a < b,
     "leb": lambda a, b: a <= b,

@@ -40,8 +40,8 @@ def read(crate, file):
 
 
 def bring(crate, line, names, modules):
-    found = re.match(r"use Rattle·(\w+)(?:·specs\.specs|\.specs)\.([\w.-]+?)(?:\.\{(.*)\})?(?: as (\S+))?$", line)
-    if not found:
+    found = re.match(r"use Rattle\.(\w+)\.specs\.([\w.-]+?)(?:\.\{(.*)\})?(?: as (\S+))?$", line)
+    if not found or not (CRATES / found.group(1)).exists():  # the kit's libraries are not counted
         return
     where = (found.group(1), found.group(2))
     if found.group(3):
@@ -63,7 +63,7 @@ def module(crate, file):
 
 def reached(crate, file, name, seen, declared):
     if file.startswith("declared"):
-        declared.add((crate, file.split(".")[1]))
+        declared.add((crate, next(part for part in file.split(".")[1:] if part[0].isupper())))
         return
     items, names, modules = module(crate, file)
     name = name if name in items else parts.get((crate, file, name), name)
@@ -72,15 +72,15 @@ def reached(crate, file, name, seen, declared):
     seen.add((crate, file, name))
     for word in set(WORD.findall("\n".join(items[name]))):
         head, _, rest = word.partition(".")
-        infix = "_" + word + "_"
-        if word in items or (crate, file, word) in parts:
-            reached(crate, file, word, seen, declared)
-        elif infix in names:
+        infix = "◌" + word + "◌"
+        if infix in names:
             reached(*names[infix], seen, declared)
-        elif word in names:
-            reached(*names[word], seen, declared)
         elif head in modules and rest:
             reached(*modules[head], rest, seen, declared)
+        elif head in items or (crate, file, head) in parts:  # what follows a dot is a field
+            reached(crate, file, head, seen, declared)
+        elif head in names:
+            reached(*names[head], seen, declared)
 
 
 def declared_lines(crate, name):

@@ -71,7 +71,7 @@ fn library() -> Box<dyn Side> {
     return Box::new(library::Library);
     #[cfg(not(library))]
     {
-        eprintln!("built without the library: run `rt staticlib export`, and build again");
+        eprintln!("built without the library: run `./staticlib`, and build again");
         std::process::exit(2);
     }
 }
