@@ -10,7 +10,7 @@ use mark::retain_nodes::retain;
 use mark::{MarkId, calls};
 use native::{Answer, by_name, reading};
 use range::{MaybeRange, ScalarType};
-use std::io;
+use std::io::{Stdout, Write};
 use word::Word;
 
 // An answer as one byte: a number below ten is its digit, Done is d, None and a refusal are n and r.
@@ -34,9 +34,9 @@ fn digit(number: u64) -> u8 {
     }
 }
 
-fn say(rt: &impl Print, byte: u8) -> io::Result<()> {
+fn say(mut stdout: Stdout, byte: u8) {
     let line = [byte, b'\n'];
-    rt.write_all(&line)
+    let _is_written = stdout.write_all(&line).is_ok();
 }
 
 // Is input 0 below 5? The node of the question is 2 unless what is known decides it.
@@ -51,59 +51,60 @@ fn is_below(g: &mut [u64]) -> Answer {
 }
 
 // Nodes 0, 1 and 2: an input, a constant, and the question.
-fn begin(rt: &impl Print, g: &mut [u64]) -> io::Result<()> {
+fn begin(stdout: Stdout, g: &mut [u64]) {
     let bits = ScalarType::Bits(8);
     let five = Word { lo: 5, hi: 0 };
     say(
-        rt,
+        stdout,
         letter(by_name::input(g, InputId(0), bits, MaybeRange::None)),
-    )?;
-    say(rt, letter(by_name::constant(g, bits, five)))?;
-    say(rt, letter(is_below(g)))
+    );
+    say(stdout, letter(by_name::constant(g, bits, five)));
+    say(stdout, letter(is_below(g)));
 }
 
-fn set_mark(rt: &impl Print, g: &[u64], m: &mut [u64]) -> io::Result<()> {
-    say(rt, digit(calls::mark(g, m).number()))
+fn set_mark(stdout: Stdout, g: &[u64], m: &mut [u64]) {
+    say(stdout, digit(calls::mark(g, m).number()));
 }
 
-fn assume(rt: &impl Print, g: &mut [u64]) -> io::Result<()> {
-    say(rt, letter(by_name::assume_guard(g, NodeId(2), true)))
+fn assume(stdout: Stdout, g: &mut [u64]) {
+    say(stdout, letter(by_name::assume_guard(g, NodeId(2), true)));
 }
 
-fn go_back(rt: &impl Print, g: &mut [u64], m: &mut [u64]) -> io::Result<()> {
-    say(rt, letter(calls::return_to(g, m, MarkId(0))))
+fn go_back(stdout: Stdout, g: &mut [u64], m: &mut [u64]) {
+    say(stdout, letter(calls::return_to(g, m, MarkId(0))));
 }
 
-fn resolved(rt: &impl Print, g: &[u64]) -> io::Result<()> {
-    say(rt, letter(reading::resolve(g, NodeId(0))))
+fn resolved(stdout: Stdout, g: &[u64]) {
+    say(stdout, letter(reading::resolve(g, NodeId(0))));
 }
 
 // In the arm the question is decided; after the return it is the node again.
-fn arm(rt: &impl Print, g: &mut [u64], m: &mut [u64]) -> io::Result<()> {
-    set_mark(rt, g, m)?;
-    assume(rt, g)?;
-    say(rt, letter(is_below(g)))?;
-    go_back(rt, g, m)?;
-    say(rt, letter(is_below(g)))
+fn arm(stdout: Stdout, g: &mut [u64], m: &mut [u64]) {
+    set_mark(stdout, g, m);
+    assume(stdout, g);
+    say(stdout, letter(is_below(g)));
+    go_back(stdout, g, m);
+    say(stdout, letter(is_below(g)));
 }
 
 // A retain of all nodes clears the aliases and keeps the Refine, which the guard finds again.
-fn old_refine(rt: &impl Print, g: &mut [u64], m: &mut [u64]) -> io::Result<()> {
-    assume(rt, g)?;
+fn old_refine(stdout: Stdout, g: &mut [u64], m: &mut [u64]) {
+    assume(stdout, g);
     let keep = [1u8; 4];
     let mut mapping = [0u64; 4];
-    say(rt, digit(retain(g, m, &keep, &mut mapping).number()))?;
-    set_mark(rt, g, m)?;
-    assume(rt, g)?;
-    resolved(rt, g)?;
-    go_back(rt, g, m)?;
-    resolved(rt, g)
+    say(stdout, digit(retain(g, m, &keep, &mut mapping).number()));
+    set_mark(stdout, g, m);
+    assume(stdout, g);
+    resolved(stdout, g);
+    go_back(stdout, g, m);
+    resolved(stdout, g);
 }
 
-fn main(rt: HostRuntime) -> io::Result<()> {
+fn main(rt: HostRuntime) {
+    let stdout = rt.stdout();
     let mut g = [0u64; REGION];
     let mut m = [0u64; MARKS];
-    begin(&rt, &mut g)?;
-    arm(&rt, &mut g, &mut m)?;
-    old_refine(&rt, &mut g, &mut m)
+    begin(stdout, &mut g);
+    arm(stdout, &mut g, &mut m);
+    old_refine(stdout, &mut g, &mut m);
 }

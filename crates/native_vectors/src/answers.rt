@@ -25,7 +25,7 @@ fn put_decimal(n: u64, out: &mut [u8], at: usize) -> usize
     ensures { result ≤ at + 20 }
 {
     let mut digits = [0u8; 20];
-    let count = text::put_decimal(n, &mut digits, 0);
+    let count = io::decimal(n, &mut digits);
     put_short(&digits[..count], out, at)
 }
 

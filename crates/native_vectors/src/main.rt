@@ -10,32 +10,28 @@ mod region;
 mod retains;
 
 use answers::put_answer_to;
-use std::io;
-use std::io::Read;
+use std::io::{Read, Stdin, Stdout, Write};
 
 // Replays a line, and answers whether there may be more. A line has 102 bytes, and an answer at most 72.
-fn replay_line(rt: &(impl Input + Print + Alloc), words: &mut [u64; 6402]) -> io::Result<bool> {
-    let mut line = Vec::new(rt.alloc());
+fn replay_line(mut stdin: Stdin, mut stdout: Stdout, words: &mut [u64; 6402]) -> bool {
+    let mut line = [0u8; 102];
     let mut out = [0u8; 72];
-    let n = rt.reader().take(102).read_to_end(&mut line)?;
-    if n != 102 {
-        return Ok(false);
+    if stdin.read_exact(&mut line).is_err() {
+        return false;
     }
     let len = put_answer_to(&line, words, &mut out);
     if len == 0 {
-        return Ok(false);
+        return false;
     }
-    rt.write_all(&out[0..len])?;
-    Ok(true)
+    stdout.write_all(&out[0..len]).is_ok()
 }
 
 // The words are the region's 6,145, one past its end, and 256 for the mapping of a retain.
 // A proved loop has to end: it counts its turns down, from a number that no run uses up.
-fn main(rt: HostRuntime) -> io::Result<()> {
+fn main(rt: HostRuntime) {
     let mut words = [0u64; 6402];
     let mut turns = u64::MAX;
-    while turns > 0 && replay_line(&rt, &mut words)? {
+    while turns > 0 && replay_line(rt.stdin(), rt.stdout(), &mut words) {
         turns -= 1;
     }
-    Ok(())
 }

@@ -7,6 +7,7 @@ ghost use Rattle.word.specs.Option.{provided};
 ghost use Rattle.text.specs.Text.{placed, end_of, placed_in};
 ghost use Rattle.vector_lines.specs.Text.{digit_value, spelled, hex_digits, number_in};
 
+use std::io::{Read, Stdin};
 use text::put_text_in_room;
 use word::{MaybeWord, Word};
 
@@ -104,6 +105,24 @@ pub fn put_word(w: Word, out: &mut [u8], at: usize) -> usize
         if 32 <= out.len() - at {
             return put_word_in_room(w, out, at);
         }
+    }
+    at
+}
+
+// Fills a block from standard input, and answers how many bytes came: fewer at the end of the input, or where a read fails.
+pub fn read_full(mut stdin: Stdin, block: &mut [u8]) -> usize
+    ensures { result ≤ length block.old }
+{
+    let mut at = 0;
+    while at < block.len() {
+        let got = match stdin.read(&mut block[at..]) {
+            Ok(n) => n,
+            Err(_) => 0,
+        };
+        if got == 0 {
+            return at;
+        }
+        at += got;
     }
     at
 }

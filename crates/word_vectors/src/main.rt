@@ -5,11 +5,11 @@
 mod answers;
 mod lines;
 
-ghost use Rattle.std.specs.Prelude.{◌≡◌, ◌≤◌, length, take};
+ghost use Rattle.io.specs.Counts.{IsPrefixLen};
 
 use lines::put_answer_to;
-use std::io;
-use std::io::Read;
+use std::io::{Stdin, Stdout, Write};
+use vector_lines::read_full;
 
 #[derive(Clone, Copy)]
 struct Replayed {
@@ -19,8 +19,7 @@ struct Replayed {
 
 // Puts the answers to the lines of block at the start of out.
 fn replay(block: &[u8], out: &mut [u8]) -> Replayed
-    ensures in_bounds { result.len ≤ length out.new }
-    ensures prefix { result.len ≡ length (take result.len out.new) }
+    ensures { IsPrefixLen result.len out.new }
 {
     let mut from = 0;
     let mut len = 0;
@@ -48,21 +47,23 @@ fn replay(block: &[u8], out: &mut [u8]) -> Replayed
 }
 
 // Replays 64 lines, and answers whether there may be more. A line has 69 bytes, and an answer at most 33.
-fn replay_some(rt: &(impl Input + Print + Alloc)) -> io::Result<bool> {
-    let mut block = Vec::new(rt.alloc());
+fn replay_some(stdin: Stdin, mut stdout: Stdout) -> bool {
+    let mut block = [0u8; 4416];
     let mut out = [0u8; 2112];
-    let n = rt.reader().take(4416).read_to_end(&mut block)?;
-    let replayed = replay(&block, &mut out);
+    let n = read_full(stdin, &mut block);
+    let replayed = replay(&block[..n], &mut out);
     let len = replayed.len;
-    rt.write_all(&out[..len])?;
-    Ok(n == 4416 && replayed.is_whole)
+    if stdout.write_all(&out[..len]).is_ok() {
+        if n == 4416 { replayed.is_whole } else { false }
+    } else {
+        false
+    }
 }
 
 // A proved loop has to end: it counts its turns down, from a number that no run uses up.
-fn main(rt: HostRuntime) -> io::Result<()> {
+fn main(rt: HostRuntime) {
     let mut turns = u64::MAX;
-    while turns > 0 && replay_some(&rt)? {
+    while turns > 0 && replay_some(rt.stdin(), rt.stdout()) {
         turns -= 1;
     }
-    Ok(())
 }
