@@ -2,7 +2,7 @@
 use mathlib.Core.Bool.{Bool, true, false, cond}
 use mathlib.Core.List.{List}
 use mathlib.Core.Path.{◌≡◌}
-use Prim.Native.Nat.{ℕ, ◌-◌, ◌≤◌}
+use Prim.Native.Nat.{ℕ, ◌+◌, ◌-◌, ◌≤◌}
 use native.Mathlib.Omega.{arith}
 use lib.Dec.{leb}
 use lib.ListN.{length, take, drop, length-drop}
@@ -19,21 +19,20 @@ fits : (b : Bool) (line text after : List ℕ) (n : ℕ) → n ≡ cond b (lengt
 fits true line text after n e q s = omega (arith, e, placed-fits line text after q s)
 fits false line text after n e q s = omega (arith, e)
 
+-- the last line, put or not behind the first `at` bytes of a buffer, ends within it
+within : (b : List ℕ → Bool) (at : ℕ) (out text after : List ℕ) (n : ℕ) → at ≤ length out
+    → n ≡ cond (b (take (length out - at) (drop at out))) (length text) 0
+    → after ≡ cond (b (take (length out - at) (drop at out))) (placed (take (length out - at) (drop at out)) 0 text) (take (length out - at) (drop at out))
+    → length after ≡ length (take (length out - at) (drop at out)) → at + n ≤ length out
+within b at out text after n l e q s = omega (arith, l, rw part_from at (fits _ _ text after n e q s), length-drop at out)
+
 pub count-requires : goal.count-requires
 count-requires c = (graph_facts _ (grown-is_graph c.end_inside-at.ensures.grown)).length
 
 pub overflow_add-at : goal.overflow_add-at
 overflow_add-at c =
-    let first = c.end_inside-at in
-    let out = first.new.out in
-    let part = take (length out - first.result) (drop first.result out) in
-    let l = fits (leb LINE (length part)) part (nodes_line c.count.result) _ _ c.put_nodes-end.ensures.value c.put_nodes-end.ensures.line_after c.put_nodes-end.auto.line in
-    omega (arith, rw part_from at l, length-drop first.result out)
+    omega (arith, within (λ x. leb LINE (length x)) c.end_inside-at.result c.end_inside-at.new.out (nodes_line c.count.result) _ _ (omega arith) c.put_nodes-end.ensures.value c.put_nodes-end.ensures.line_after c.put_nodes-end.auto.line)
 
 pub slice_bounds-write_all-end : goal.slice_bounds-write_all-end
 slice_bounds-write_all-end c =
-    let first = c.end_inside-at in
-    let out = first.new.out in
-    let part = take (length out - first.result) (drop first.result out) in
-    let l = fits (leb LINE (length part)) part (nodes_line c.count.result) _ _ c.put_nodes-end.ensures.value c.put_nodes-end.ensures.line_after c.put_nodes-end.auto.line in
-    omega (arith, rw part_from at l, length-drop first.result out)
+    omega (arith, within (λ x. leb LINE (length x)) c.end_inside-at.result c.end_inside-at.new.out (nodes_line c.count.result) _ _ (omega arith) c.put_nodes-end.ensures.value c.put_nodes-end.ensures.line_after c.put_nodes-end.auto.line)
