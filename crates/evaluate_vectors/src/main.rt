@@ -49,10 +49,10 @@ fn replay(block: &[u8], out: &mut [u8]) -> Replayed
 }
 
 // Replays 64 lines, and answers whether there may be more. A line has 141 bytes, and an answer at most 66.
-fn replay_some(stdin: Stdin, mut stdout: Stdout) -> bool {
+fn replay_some(mut stdin: Stdin, mut stdout: Stdout) -> bool {
     let mut block = [0u8; 9024];
     let mut out = [0u8; 4224];
-    let n = read_full(stdin, &mut block);
+    let n = read_full(&mut stdin, &mut block);
     let replayed = replay(&block[..n], &mut out);
     let len = replayed.len;
     if stdout.write_all(&out[..len]).is_ok() {

@@ -1,13 +1,14 @@
 // The text of test vectors: hex digits that are read, and words that are put into a lent slice in hex digits.
 #![tactic(auto)]
 
-ghost use Rattle.std.specs.Prelude.{◌≡◌, ◌+◌, ◌≤◌, eqb, leb, length};
+ghost use Rattle.std.specs.Io.KnownBytes.{Consumes};
+ghost use Rattle.std.specs.Prelude.{◌≡◌, ◌+◌, ◌≤◌, eqb, leb, length, take};
 ghost use Rattle.word.specs.Value.{val, number_of};
 ghost use Rattle.word.specs.Option.{provided};
 ghost use Rattle.text.specs.Text.{placed, end_of, placed_in};
 ghost use Rattle.vector_lines.specs.Text.{digit_value, spelled, hex_digits, number_in};
 
-use std::io::{Read, Stdin};
+use std::io::Read;
 use text::put_text_in_room;
 use word::{MaybeWord, Word};
 
@@ -109,13 +110,15 @@ pub fn put_word(w: Word, out: &mut [u8], at: usize) -> usize
     at
 }
 
-// Fills a block from standard input, and answers how many bytes came: fewer at the end of the input, or where a read fails.
-pub fn read_full(mut stdin: Stdin, block: &mut [u8]) -> usize
-    ensures { result ≤ length block.old }
+// Fills a block with what a reader gives, and answers how many bytes came: they are the next ones of the reader, in their order. There are fewer
+// than the block holds at the reader's end, or where a read fails. The rest of the block may be anything.
+pub fn read_full<R: Read>(reader: &mut R, block: &mut [u8]) -> usize
+    ensures in_bounds { result ≤ length block.old }
+    ensures bytes { Consumes (R.remaining reader.old) (R.remaining reader.new) (take result block.new) }
 {
     let mut at = 0;
     while at < block.len() {
-        let got = match stdin.read(&mut block[at..]) {
+        let got = match reader.read(&mut block[at..]) {
             Ok(n) => n,
             Err(_) => 0,
         };
