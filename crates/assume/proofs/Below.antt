@@ -2,7 +2,7 @@
 use mathlib.Core.Path.{◌≡◌, refl, ap, subst}
 use mathlib.Core.Bool.{Bool, not}
 use mathlib.Core.List.{List}
-use mathlib.Core.Option.{Option, none, some}
+use Rattle.std.specs.Prelude.{Option, None, Some}
 use Prim.Native.Nat.{ℕ, zero, suc, ◌≤◌, ◌<◌}
 use native.Mathlib.Nat.{le_refl}
 use native.Mathlib.Omega.{arith}
@@ -27,11 +27,11 @@ module _ {g : List ℕ} (f : Graph g) where
   -- ---- to the base of a sum
 
   -- a Refine's source
-  refined_below : (n p : ℕ) → n < count_of g → refined_at g n ≡ some p → p < n
+  refined_below : (n p : ℕ) → n < count_of g → refined_at g n ≡ Some p → p < n
   unfolding refined_at
   refined_below n p l e = by (operation_at g n) (start_le f n l) e
     where
-      by : (o : Op) → start o ≤ n → refined_of o ≡ some p → p < n
+      by : (o : Op) → start o ≤ n → refined_of o ≡ Some p → p < n
       by (node.constant c) b q = absurd (none-some q)
       by (node.input i) b q = absurd (none-some q)
       by (node.refine i) b q = let d : i ≡ p = some_is q in omega arith
@@ -47,19 +47,19 @@ module _ {g : List ℕ} (f : Graph g) where
   down_le (suc k) n l = by (refined_at g n) refl (down_le k)
     where
       by : (x : Option ℕ) → refined_at g n ≡ x → ((p : ℕ) → p < count_of g → down g k p ≤ p) → given x (λ p. down g k p) n ≤ n
-      by none e rest = le_refl n
-      by (some p) e rest = let d = refined_below n p l e in let r = rest p (omega arith) in omega arith
+      by None e rest = le_refl n
+      by (Some p) e rest = let d = refined_below n p l e in let r = rest p (omega arith) in omega arith
 
   -- the left operand of an operation by a constant
-  by_constant_below : (n : ℕ) (c : ByConstant) → n < count_of g → by_constant_at g n ≡ some c → c.base < n
+  by_constant_below : (n : ℕ) (c : ByConstant) → n < count_of g → by_constant_at g n ≡ Some c → c.base < n
   unfolding by_constant_at
   by_constant_below n c l e = by (operation_at g n) (start_le f n l) e
     where
-      on : (o : Binary) (i : ℕ) (v : Option ℕ) → i < n → with_constant o i v ≡ some c → c.base < n
-      on o i none b q = absurd (none-some q)
-      on o i (some v) b q = let d : i ≡ c.base = ap (λ (x : ByConstant). x.base) (some_is q) in omega arith
+      on : (o : Binary) (i : ℕ) (v : Option ℕ) → i < n → with_constant o i v ≡ Some c → c.base < n
+      on o i None b q = absurd (none-some q)
+      on o i (Some v) b q = let d : i ≡ c.base = ap (λ (x : ByConstant). x.base) (some_is q) in omega arith
 
-      by : (o : Op) → start o ≤ n → by_constant_of g o ≡ some c → c.base < n
+      by : (o : Op) → start o ≤ n → by_constant_of g o ≡ Some c → c.base < n
       by (node.constant k) b q = absurd (none-some q)
       by (node.input i) b q = absurd (none-some q)
       by (node.refine i) b q = absurd (none-some q)
@@ -70,31 +70,31 @@ module _ {g : List ℕ} (f : Graph g) where
       by (node.binary o i j) b q = on o i (literal g j) (omega arith) q
 
   -- the node that follows
-  pub base_below : (n : ℕ) (a : Interval) (x : Next) → n < count_of g → base_of g n a ≡ some x → x.node < n
+  pub base_below : (n : ℕ) (a : Interval) (x : Next) → n < count_of g → base_of g n a ≡ Some x → x.node < n
   unfolding base_of origin
   base_below n a x l e = by (by_constant_at g (origin g n)) refl e
     where
       le : origin g n ≤ n
       le = down_le LIMIT n l
 
-      on : (c : ByConstant) (y : Option Interval) → c.base < n → mapped (next c.base) y ≡ some x → x.node < n
-      on c none b q = absurd (none-some q)
-      on c (some y) b q = let d : c.base ≡ x.node = ap (λ (z : Next). z.node) (some_is q) in omega arith
+      on : (c : ByConstant) (y : Option Interval) → c.base < n → mapped (next c.base) y ≡ Some x → x.node < n
+      on c None b q = absurd (none-some q)
+      on c (Some y) b q = let d : c.base ≡ x.node = ap (λ (z : Next). z.node) (some_is q) in omega arith
 
-      by : (y : Option ByConstant) → by_constant_at g (origin g n) ≡ y → given y (base_by g (type_at g n) a) none ≡ some x → x.node < n
-      by none p q = absurd (none-some q)
-      by (some c) p q =
+      by : (y : Option ByConstant) → by_constant_at g (origin g n) ≡ y → given y (base_by g (type_at g n) a) None ≡ Some x → x.node < n
+      by None p q = absurd (none-some q)
+      by (Some c) p q =
           let b = by_constant_below (origin g n) c (omega (arith, le)) p in
           on c (undone (type_at g n) c.op c.value a) (omega (arith, le)) (provided_is (same_type (type_at g c.base) (type_at g n)) _ q).1
 
   -- ---- to a comparison
 
   -- a BoolNot's operand
-  negated_below : (n p : ℕ) → n < count_of g → negated_at g n ≡ some p → p < n
+  negated_below : (n p : ℕ) → n < count_of g → negated_at g n ≡ Some p → p < n
   unfolding negated_at
   negated_below n p l e = by (operation_at g n) (start_le f n l) e
     where
-      by : (o : Op) → start o ≤ n → negated_of o ≡ some p → p < n
+      by : (o : Op) → start o ≤ n → negated_of o ≡ Some p → p < n
       by (node.constant c) b q = absurd (none-some q)
       by (node.input i) b q = absurd (none-some q)
       by (node.refine i) b q = absurd (none-some q)
@@ -102,7 +102,7 @@ module _ {g : List ℕ} (f : Graph g) where
       by (node.slice i o w) b q = absurd (none-some q)
       by (node.concat i j w) b q = absurd (none-some q)
       by (node.unary u i) b q =
-          let d : i ≡ p = some_is (provided_is (eqb (unary_code u) (unary_code un.BoolNot)) (some i) q).1 in omega arith
+          let d : i ≡ p = some_is (provided_is (eqb (unary_code u) (unary_code un.BoolNot)) (Some i) q).1 in omega arith
       by (node.binary o i j) b q = absurd (none-some q)
 
   -- past the BoolNots
@@ -112,15 +112,15 @@ module _ {g : List ℕ} (f : Graph g) where
     where
       by : (x : Option ℕ) → negated_at g n ≡ x → ((p : ℕ) (d : Bool) → p < count_of g → (behind g k p d).node ≤ p)
           → (given x (λ i. behind g k i (not e)) (record { node = n; expected = e })).node ≤ n
-      by none q rest = le_refl n
-      by (some p) q rest = let d = negated_below n p l q in let r = rest p (not e) (omega arith) in omega arith
+      by None q rest = le_refl n
+      by (Some p) q rest = let d = negated_below n p l q in let r = rest p (not e) (omega arith) in omega arith
 
   -- both sides of a comparison
-  compared_below : (n : ℕ) (c : Comparison) → n < count_of g → comparison_at g n ≡ some c → (c.left < n) × (c.right < n)
+  compared_below : (n : ℕ) (c : Comparison) → n < count_of g → comparison_at g n ≡ Some c → (c.left < n) × (c.right < n)
   unfolding comparison_at
   compared_below n c l e = by (operation_at g n) (start_le f n l) e
     where
-      by : (o : Op) → start o ≤ n → compared_by o ≡ some c → (c.left < n) × (c.right < n)
+      by : (o : Op) → start o ≤ n → compared_by o ≡ Some c → (c.left < n) × (c.right < n)
       by (node.constant k) b q = absurd (none-some q)
       by (node.input i) b q = absurd (none-some q)
       by (node.refine i) b q = absurd (none-some q)
@@ -132,7 +132,7 @@ module _ {g : List ℕ} (f : Graph g) where
           subst (λ (x : Comparison). (x.left < n) × (x.right < n)) (some_is (provided_is (is_any comparisons o) _ q).1) (omega arith, omega arith)
 
   -- the nodes that a guard compares
-  pub guard_below : (n : ℕ) (e : Bool) (c : Comparison) → n < count_of g → comparison_at g (behind_nots g n e).node ≡ some c → (c.left < n) × (c.right < n)
+  pub guard_below : (n : ℕ) (e : Bool) (c : Comparison) → n < count_of g → comparison_at g (behind_nots g n e).node ≡ Some c → (c.left < n) × (c.right < n)
   unfolding behind_nots
   guard_below n e c l q =
       let b = behind-le LIMIT n e l in

@@ -2,7 +2,7 @@
 use mathlib.Core.Path.{◌≡◌, refl, sym, ap, ◌∙◌, subst}
 use mathlib.Core.Bool.{Bool, true, false, not, cond}
 use mathlib.Core.List.{List}
-use mathlib.Core.Option.{Option, none, some}
+use Rattle.std.specs.Prelude.{Option, None, Some}
 use Prim.Native.Nat.{ℕ, min, ◌-◌, ◌^◌, ◌≤◌, ◌<◌}
 use native.Mathlib.Nat.{le_refl}
 use native.Mathlib.Omega.{arith}
@@ -73,7 +73,7 @@ pub record Added (h k : List ℕ) : Type 0 where
 
 -- the words of a Refine of node n
 abbrev refine_words : List ℕ → ℕ → Interval → List ℕ
-refine_words h n a = words_of (type_at h n) (some a) (node.refine n)
+refine_words h n a = words_of (type_at h n) (Some a) (node.refine n)
 
 module _ (h : List ℕ) (e : is_graph h ≡ true) (w : Words h) (n : ℕ) (here : n < count_of h) where
   -- what question 1 says
@@ -91,7 +91,7 @@ module _ (h : List ℕ) (e : is_graph h ≡ true) (w : Words h) (n : ℕ) (here 
     high : mag a.high < 2 ^ 127
 
   -- the part of its range between limits is one
-  meets : (old : Interval) (l : Limits) → range_at h n ≡ some old → narrows (type_at h n) old (meet old l) ≡ true → Met (meet old l)
+  meets : (old : Interval) (l : Limits) → range_at h n ≡ Some old → narrows (type_at h n) old (meet old l) ≡ true → Met (meet old l)
   meets old l q t =
       let full = narrows_full (type_at h n) old (meet old l) t in
       let i = met_inside old l in
@@ -102,11 +102,11 @@ module _ (h : List ℕ) (e : is_graph h ≡ true) (w : Words h) (n : ℕ) (here 
         high = between_small (2 ^ 127) old.low old.high (meet old l).high (omega orders) i.1 d.0 d.1;
       }
 
-  module _ (P : Step → Type 0) (stays : (o : Outcome) → (o ≡ narrowed → ⊥) → P (step o none h))
+  module _ (P : Step → Type 0) (stays : (o : Outcome) → (o ≡ narrowed → ⊥) → P (step o None h))
       (gets : (a : Interval) (k : List ℕ) (m : ℕ) → Added h k → n < m → m < count_of k → P (step narrowed (base_of (aliased k n m) n a) (aliased k n m))) where
     module _ (a : Interval) (v : Met a) where
       -- words hold the Refine
-      stored : Stored (type_at h n) (some a) (node.refine n)
+      stored : Stored (type_at h n) (Some a) (node.refine n)
       stored = let b = width_of f n here in record { width = omega arith; low = v.low; high = v.high; offset = lit< tt; parameter = lit< tt }
 
       -- a new node, if there is room
@@ -114,32 +114,32 @@ module _ (h : List ℕ) (e : is_graph h ≡ true) (w : Words h) (n : ℕ) (here 
       new_case true t =
           let room = ltb-true (count_of h) LIMIT t in
           let b = width_of f n here in
-          let c = appended-count h (refine_words h n a) f.length (length-words (type_at h n) (some a) (node.refine n)) room in
+          let c = appended-count h (refine_words h n a) f.length (length-words (type_at h n) (Some a) (node.refine n)) room in
           rw (ap (λ (x : Made). x.answer) (appended_made h (refine_words h n a) room))
           (gets a (appended h (refine_words h n a)).words (count_of h)
           (record {
-            graph = graph-grown h (type_at h n) (some a) (node.refine n) f room stored b (omega arith) (lit< tt) (lit≤ tt) (λ x q. subst (Valid (type_at h n)) (some_is q) v.valid);
-            words = appended-words h (refine_words h n a) w (node-words (type_at h n) (some a) (node.refine n) (omega arith) (lit< tt) (omega (arith, f.count)) (lit< tt) (lit< tt));
+            graph = graph-grown h (type_at h n) (Some a) (node.refine n) f room stored b (omega arith) (lit< tt) (lit≤ tt) (λ x q. subst (Valid (type_at h n)) (some_is q) v.valid);
+            words = appended-words h (refine_words h n a) w (node-words (type_at h n) (Some a) (node.refine n) (omega arith) (lit< tt) (omega (arith, f.count)) (lit< tt) (lit< tt));
             more = omega arith;
-            old = λ i l. (appended_other h (refine_words h n a) f.length (length-words (type_at h n) (some a) (node.refine n)) room i (λ q. omega arith)).alias;
+            old = λ i l. (appended_other h (refine_words h n a) f.length (length-words (type_at h n) (Some a) (node.refine n)) room i (λ q. omega arith)).alias;
             new = λ i l q.
                 let d : count_of h ≡ i = omega arith in
-                subst (λ (j : ℕ). alias_at (appended h (refine_words h n a)).words j ≡ 0) d (appended_new h (type_at h n) (some a) (node.refine n) f.length room stored).alias;
+                subst (λ (j : ℕ). alias_at (appended h (refine_words h n a)).words j ≡ 0) d (appended_new h (type_at h n) (Some a) (node.refine n) f.length room stored).alias;
           })
           here (omega arith))
       new_case false t = subst (λ (x : Made). P (alias_to n a x.answer x.words)) (sym (appended_full h (refine_words h n a) t)) (stays full full_narrowed)
 
       -- the node is found past n, or is new
       narrow_case : (x : Option ℕ) → interned h (node.refine n) (refine_words h n a) ≡ x → P (narrow h n a)
-      narrow_case none q =
-          subst (λ (x : Made). P (alias_to n a x.answer x.words)) (sym (inserted_new h (type_at h n) (some a) (node.refine n) q))
+      narrow_case None q =
+          subst (λ (x : Made). P (alias_to n a x.answer x.words)) (sym (inserted_new h (type_at h n) (Some a) (node.refine n) q))
           (new_case (ltb (count_of h) LIMIT) refl)
-      narrow_case (some i) q =
+      narrow_case (Some i) q =
           let r = lowest-some (same_key h (refine_words h n a)) (min (start (node.refine n)) LIMIT) (min (count_of h) LIMIT - min (start (node.refine n)) LIMIT) i q in
           let c = f.count in
           let l : (n < i) × (i < count_of h) = (omega arith, omega arith) in
           let d = resolve-within f i l.1 in
-          subst (λ (x : Made). P (alias_to n a x.answer x.words)) (sym (inserted-found h (type_at h n) (some a) (node.refine n) i q))
+          subst (λ (x : Made). P (alias_to n a x.answer x.words)) (sym (inserted-found h (type_at h n) (Some a) (node.refine n) i q))
           (gets a h (resolve h i) same_added (omega arith) d.1)
 
     -- a step changes nothing, or gives the node an alias above it, after a node was stored or not
@@ -147,15 +147,15 @@ module _ (h : List ℕ) (e : is_graph h ≡ true) (w : Words h) (n : ℕ) (here 
     unfolding refine_step
     step_cases l = by (range_at h n) refl
       where
-        test : (old : Interval) → range_at h n ≡ some old → (t : Bool) → narrows (type_at h n) old (meet old l) ≡ t
-            → P (cond t (narrow h n (meet old l)) (step unchanged none h))
+        test : (old : Interval) → range_at h n ≡ Some old → (t : Bool) → narrows (type_at h n) old (meet old l) ≡ t
+            → P (cond t (narrow h n (meet old l)) (step unchanged None h))
         test old q true t = narrow_case (meet old l) (meets old l q t) (interned h (node.refine n) (refine_words h n (meet old l))) refl
         test old q false t = stays unchanged unchanged-narrowed
 
         by : (r : Option Interval) → range_at h n ≡ r
-            → P (given r (λ old. cond (narrows (type_at h n) old (meet old l)) (narrow h n (meet old l)) (step unchanged none h)) (step unchanged none h))
-        by none q = stays unchanged unchanged-narrowed
-        by (some old) q = test old q (narrows (type_at h n) old (meet old l)) refl
+            → P (given r (λ old. cond (narrows (type_at h n) old (meet old l)) (narrow h n (meet old l)) (step unchanged None h)) (step unchanged None h))
+        by None q = stays unchanged unchanged-narrowed
+        by (Some old) q = test old q (narrows (type_at h n) old (meet old l)) refl
 
 -- ---- what refining leaves of a graph
 
@@ -195,9 +195,9 @@ module _ (h : List ℕ) (e : is_graph h ≡ true) (w : Words h) (n : ℕ) (here 
       l
 
   -- the node that follows is one of the graph
-  pub step_next : (x : Next) → (refine_step h n l).next ≡ some x → x.node < count_of (refine_step h n l).words
+  pub step_next : (x : Next) → (refine_step h n l).next ≡ Some x → x.node < count_of (refine_step h n l).words
   step_next =
-      step_cases h e w n here (λ s. (x : Next) → s.next ≡ some x → x.node < count_of s.words) (λ o d x q. absurd (none-some q))
+      step_cases h e w n here (λ s. (x : Next) → s.next ≡ Some x → x.node < count_of s.words) (λ o d x q. absurd (none-some q))
       (λ a k m p up below x q.
       let f = graph_facts k p.graph in
       let c : n < count_of (aliased k n m) = omega (arith, aliased-count f n m up below) in
@@ -215,7 +215,7 @@ module _ (g : List ℕ) (e : is_graph g ≡ true) (w : Words g) where
       grows_on p (step_grows h p.graph p.words (resolve h n) (resolve-within f n q).1 l (resolve_end f n q))
 
   -- and leads to a node of the graph
-  on : (h : List ℕ) (n : ℕ) (l : Limits) → Grows g h → n < count_of h → (x : Next) → (refine_step h (resolve h n) l).next ≡ some x
+  on : (h : List ℕ) (n : ℕ) (l : Limits) → Grows g h → n < count_of h → (x : Next) → (refine_step h (resolve h n) l).next ≡ Some x
       → x.node < count_of (refine_step h (resolve h n) l).words
   on h n l p q = step_next h p.graph p.words (resolve h n) (resolve-within (graph_facts h p.graph) n q).1 l
 

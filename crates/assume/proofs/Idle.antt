@@ -2,7 +2,7 @@
 use mathlib.Core.Path.{◌≡◌, refl, sym, ap}
 use mathlib.Core.Bool.{Bool, true, false, cond, ◌||◌, false≢true}
 use mathlib.Core.List.{List}
-use mathlib.Core.Option.{Option, none, some}
+use Rattle.std.specs.Prelude.{Option, None, Some}
 use Prim.Native.Nat.{ℕ, ◌-◌}
 use Rattle.word.specs.Option.{given}
 use Rattle.range.specs.Interval.{Interval}
@@ -18,14 +18,14 @@ use Rattle.assume.specs.Narrowing.{narrows_at, narrows_either, narrows_by, narro
 
 module _ (g : List ℕ) where
   -- one node: no step is taken
-  step_idle : (n : ℕ) (l : Limits) → narrows_at g n l ≡ false → refine_step g (resolve g n) l ≡ step unchanged none g
+  step_idle : (n : ℕ) (l : Limits) → narrows_at g n l ≡ false → refine_step g (resolve g n) l ≡ step unchanged None g
   unfolding narrows_at refine_step
   step_idle n l = by (range_at g (resolve g n))
     where
       by : (o : Option Interval) → given o (λ old. narrows (type_at g (resolve g n)) old (meet old l)) false ≡ false
-          → given o (λ old. cond (narrows (type_at g (resolve g n)) old (meet old l)) (narrow g (resolve g n) (meet old l)) (step unchanged none g)) (step unchanged none g) ≡ step unchanged none g
-      by none e = refl
-      by (some old) e = rw e
+          → given o (λ old. cond (narrows (type_at g (resolve g n)) old (meet old l)) (narrow g (resolve g n) (meet old l)) (step unchanged None g)) (step unchanged None g) ≡ step unchanged None g
+      by None e = refl
+      by (Some old) e = rw e
 
   refined_idle : (so : Outcome) (n : ℕ) (l : Limits) → narrows_at g n l ≡ false → refined so g n l ≡ assumed so g
   unfolding refined
@@ -43,9 +43,9 @@ module _ (g : List ℕ) where
       rw (refined_idle unchanged a p.left d.0) (refined_idle unchanged b p.right d.1)
 
   by_idle : (e : Bool) (o : Binary) (a b : ℕ) (x y : Option Interval) → narrows_by g e o a b x y ≡ false → assumed_by g e o a b x y ≡ assumed unchanged g
-  by_idle e o a b none y q = refl
-  by_idle e o a b (some x) none q = refl
-  by_idle e o a b (some x) (some y) q = by (comparable o x y) q
+  by_idle e o a b None y q = refl
+  by_idle e o a b (Some x) None q = refl
+  by_idle e o a b (Some x) (Some y) q = by (comparable o x y) q
     where
       by : (t : Bool) → cond t (narrows_either g a b (limits_by o e x y)) false ≡ false → cond t (refined_both g a b (limits_by o e x y)) (assumed unchanged g) ≡ assumed unchanged g
       by true z = both_idle a b (limits_by o e x y) z
@@ -61,5 +61,5 @@ module _ (g : List ℕ) where
     where
       by : (o : Option Comparison) → given o (narrows_of g (behind_nots g n e).expected) false ≡ false
           → given o (assumed_of g (behind_nots g n e).expected) (assumed unchanged g) ≡ assumed unchanged g
-      by none q = refl
-      by (some c) q = of_idle (behind_nots g n e).expected c q
+      by None q = refl
+      by (Some c) q = of_idle (behind_nots g n e).expected c q

@@ -2,7 +2,7 @@
 use mathlib.Core.Path.{◌≡◌, refl}
 use mathlib.Core.Bool.{Bool, true, false, cond, not, ◌&&◌}
 use mathlib.Core.List.{List}
-use mathlib.Core.Option.{Option, none}
+use Rattle.std.specs.Prelude.{Option, None}
 use Prim.Native.Nat.{ℕ, suc}
 use lib.Dec.{ltb}
 use Rattle.word.specs.Option.{provided}
@@ -22,12 +22,12 @@ cond-not true x y = refl
 cond-not false x y = refl
 
 -- only sums are undone
-pub not_sum : (t : ScalarType) (o : Binary) (c : ℕ) (a : Interval) → is_any sums o ≡ false → undone t o c a ≡ none
+pub not_sum : (t : ScalarType) (o : Binary) (c : ℕ) (a : Interval) → is_any sums o ≡ false → undone t o c a ≡ None
 unfolding undone
 not_sum ty.Bool o c a e = refl
 not_sum (ty.Bits w) o c a e = rw e (by (ltb w 128) _)
   where
-    by : (b : Bool) (r : Option Interval) → provided (b && false) r ≡ none
+    by : (b : Bool) (r : Option Interval) → provided (b && false) r ≡ None
     by true r = refl
     by false r = refl
 not_sum ty.Integer o c a e = rw e

@@ -2,7 +2,7 @@
 use mathlib.Core.Path.{◌≡◌, refl}
 use mathlib.Core.Bool.{Bool, true, false, cond}
 use mathlib.Core.List.{List}
-use mathlib.Core.Option.{Option, none, some}
+use Rattle.std.specs.Prelude.{Option, None, Some}
 use Prim.Native.Nat.{ℕ, zero, suc}
 use Rattle.word.specs.Option.{given}
 use Rattle.range.specs.Interval.{Interval}
@@ -22,19 +22,19 @@ use Rattle.assume.specs.Assume.{then_refined, refined_both, assumed_by, assumed_
 -- P is what is kept, and N what the node of a step is to be
 module _ (P : List ℕ → Type 0) (N : List ℕ → ℕ → Type 0)
     (keep : (h : List ℕ) (n : ℕ) (l : Limits) → P h → N h n → P (refine_step h (resolve h n) l).words)
-    (on : (h : List ℕ) (n : ℕ) (l : Limits) → P h → N h n → (x : Next) → (refine_step h (resolve h n) l).next ≡ some x
+    (on : (h : List ℕ) (n : ℕ) (l : Limits) → P h → N h n → (x : Next) → (refine_step h (resolve h n) l).next ≡ Some x
     → N (refine_step h (resolve h n) l).words x.node) where
   -- some steps
   some-keep : (k : ℕ) (so : Outcome) (h : List ℕ) (n : ℕ) (l : Limits) → P h → N h n → P (refine_up_to k so h n l).words
   some-keep zero so h n l p q = p
   some-keep (suc k) so h n l p q = by (refine_step h (resolve h n) l).outcome _ _ (keep h n l p q) (on h n l p q) (some-keep k narrowed)
     where
-      by : (o : Outcome) (x : Option Next) (w : List ℕ) → P w → ((y : Next) → x ≡ some y → N w y.node)
+      by : (o : Outcome) (x : Option Next) (w : List ℕ) → P w → ((y : Next) → x ≡ Some y → N w y.node)
           → ((v : List ℕ) (m : ℕ) (j : Limits) → P v → N v m → P (refine_up_to k narrowed v m j).words) → P (go_on so o x w (refine_up_to k narrowed)).words
       by unchanged x w r t rest = r
       by full x w r t rest = r
-      by narrowed none w r t rest = r
-      by narrowed (some y) w r t rest = rest w y.node (limited_to y.range) r (t y refl)
+      by narrowed None w r t rest = r
+      by narrowed (Some y) w r t rest = rest w y.node (limited_to y.range) r (t y refl)
 
   -- the steps from one node
   pub refined_keeps : (so : Outcome) (h : List ℕ) (n : ℕ) (l : Limits) → P h → N h n → P (refined so h n l).words
@@ -43,7 +43,7 @@ module _ (P : List ℕ → Type 0) (N : List ℕ → ℕ → Type 0)
 
   -- a guard, if its two nodes stay what they are to be
   pub assumed_keeps : (g : List ℕ) (n : ℕ) (e : Bool) → P g
-      → ((c : Comparison) → comparison_at g (behind_nots g n e).node ≡ some c
+      → ((c : Comparison) → comparison_at g (behind_nots g n e).node ≡ Some c
       → (h : List ℕ) → P h → N h (resolve g c.left) × N h (resolve g c.right))
       → P (assumed_guard g n e).words
   unfolding assumed_guard assumed_of refined_both
@@ -59,9 +59,9 @@ module _ (P : List ℕ → Type 0) (N : List ℕ → ℕ → Type 0)
 
       both : (c : Comparison) → ((h : List ℕ) → P h → N h (resolve g c.left) × N h (resolve g c.right)) → (x y : Option Interval)
           → P (assumed_by g d c.op (resolve g c.left) (resolve g c.right) x y).words
-      both c t none y = p
-      both c t (some x) none = p
-      both c t (some x) (some y) = test (comparable c.op x y)
+      both c t None y = p
+      both c t (Some x) None = p
+      both c t (Some x) (Some y) = test (comparable c.op x y)
         where
           test : (z : Bool)
               → P (cond z (refined_both g (resolve g c.left) (resolve g c.right) (limits_by c.op d x y)) (assumed unchanged g)).words
@@ -71,10 +71,10 @@ module _ (P : List ℕ → Type 0) (N : List ℕ → ℕ → Type 0)
           test false = p
 
       by : (x : Option Comparison)
-          → ((c : Comparison) → x ≡ some c → (h : List ℕ) → P h → N h (resolve g c.left) × N h (resolve g c.right))
+          → ((c : Comparison) → x ≡ Some c → (h : List ℕ) → P h → N h (resolve g c.left) × N h (resolve g c.right))
           → P (given x (assumed_of g d) (assumed unchanged g)).words
-      by none t = p
-      by (some c) t = both c (t c refl) (range_at g (resolve g c.left)) (range_at g (resolve g c.right))
+      by None t = p
+      by (Some c) t = both c (t c refl) (range_at g (resolve g c.left)) (range_at g (resolve g c.right))
 
 -- ---- the keys
 
@@ -90,16 +90,16 @@ module _ {k : ℕ} {g h : List ℕ} (s : Same k g h) where
       set a insert.room w q = q
       set a insert.units w q = q
 
-      test : (t : Bool) (a : Interval) → Same k g (cond t (narrow h n a) (step unchanged none h)).words
+      test : (t : Bool) (a : Interval) → Same k g (cond t (narrow h n a) (step unchanged None h)).words
       test true a =
-          set a (inserted h (type_at h n) (some a) (node.refine n)).answer (inserted h (type_at h n) (some a) (node.refine n)).words
-          (inserted_same k g h (type_at h n) (some a) (node.refine n) s)
+          set a (inserted h (type_at h n) (Some a) (node.refine n)).answer (inserted h (type_at h n) (Some a) (node.refine n)).words
+          (inserted_same k g h (type_at h n) (Some a) (node.refine n) s)
       test false a = s
 
       by : (r : Option Interval)
-          → Same k g (given r (λ old. cond (narrows (type_at h n) old (meet old l)) (narrow h n (meet old l)) (step unchanged none h)) (step unchanged none h)).words
-      by none = s
-      by (some old) = test (narrows (type_at h n) old (meet old l)) (meet old l)
+          → Same k g (given r (λ old. cond (narrows (type_at h n) old (meet old l)) (narrow h n (meet old l)) (step unchanged None h)) (step unchanged None h)).words
+      by None = s
+      by (Some old) = test (narrows (type_at h n) old (meet old l)) (meet old l)
 
 -- every node will do
 abbrev Any : List ℕ → ℕ → Type 0

@@ -2,7 +2,7 @@
 use mathlib.Core.Path.{◌≡◌, refl, sym, ap, ◌∙◌}
 use mathlib.Core.Bool.{Bool, true, false, cond}
 use mathlib.Core.List.{List}
-use mathlib.Core.Option.{Option, none, some}
+use Rattle.std.specs.Prelude.{Option, None, Some}
 use mathlib.Core.Logic.{⊎_elim}
 use Prim.Native.Nat.{ℕ, zero, suc, ◌+◌, ◌-◌, ◌≤◌, ◌<◌}
 use native.Mathlib.Omega.{arith}
@@ -120,12 +120,12 @@ module _ (h : List ℕ) (e : is_graph h ≡ true) (w : Words h) (n : ℕ) (here 
 
 -- what follows a step depends on how it goes on only where it narrows and a node follows
 on_same : (so o : Outcome) (x : Option Next) (h : List ℕ) (f g : List ℕ → ℕ → Limits → Assumed)
-    → (o ≡ narrowed → (y : Next) → x ≡ some y → f h y.node (limited_to y.range) ≡ g h y.node (limited_to y.range))
+    → (o ≡ narrowed → (y : Next) → x ≡ Some y → f h y.node (limited_to y.range) ≡ g h y.node (limited_to y.range))
     → go_on so o x h f ≡ go_on so o x h g
 on_same so unchanged x h f g s = refl
 on_same so full x h f g s = refl
-on_same so narrowed none h f g s = refl
-on_same so narrowed (some y) h f g s = s refl y refl
+on_same so narrowed None h f g s = refl
+on_same so narrowed (Some y) h f g s = s refl y refl
 
 -- as many steps as nodes may still get an alias, or more, do the same
 enough : (i j : ℕ) (so : Outcome) (g : List ℕ) (n : ℕ) (l : Limits) → is_graph g ≡ true → Words g → n < count_of g

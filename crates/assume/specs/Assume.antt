@@ -1,6 +1,6 @@
 -- Assuming a guard (assume.rs 83 to 151), on the words of the region.
 use Rattle.std.specs.Prelude.{Bool, cond, List, ℕ}
-use Rattle.std.proofs.Math.Option.{Option, none, some}
+use Rattle.std.specs.Prelude.{Option, None, Some}
 use Rattle.word.specs.Option.{given}
 use Rattle.range.specs.Interval.{Interval}
 use Rattle.evaluate.specs.declared.Binary.{Binary}
@@ -22,9 +22,9 @@ refined_both g a b p = then_refined (refined unchanged g a p.left).outcome (refi
 
 -- by the ranges that both operands have before the first of them is refined
 abbrev pub assumed_by : List ℕ → Bool → Binary → ℕ → ℕ → Option Interval → Option Interval → Assumed
-assumed_by g e o a b none s = assumed unchanged g
-assumed_by g e o a b (some x) none = assumed unchanged g
-assumed_by g e o a b (some x) (some y) = cond (comparable o x y) (refined_both g a b (limits_by o e x y)) (assumed unchanged g)
+assumed_by g e o a b None s = assumed unchanged g
+assumed_by g e o a b (Some x) None = assumed unchanged g
+assumed_by g e o a b (Some x) (Some y) = cond (comparable o x y) (refined_both g a b (limits_by o e x y)) (assumed unchanged g)
 
 -- a comparison of two nodes, which are resolved
 unfoldable pub assumed_of : List ℕ → Bool → Comparison → Assumed

@@ -1,6 +1,6 @@
 -- Limits of a value: what a comparison of two ranges gives (assume.rs 104 to 150), and the part of a range between limits.
 use Rattle.std.specs.Prelude.{Bool, cond, not, ◌&&◌, ◌||◌, ℤ, pos, ◌+ℤ◌, ◌-ℤ◌}
-use Rattle.std.proofs.Math.Option.{Option, none, some}
+use Rattle.std.specs.Prelude.{Option, None, Some}
 use Rattle.std.specs.Int.Signed.{le_z}
 use Rattle.word.specs.Value.{value_of, fitted, eq_z, min_z, max_z}
 use Rattle.word.specs.Option.{provided}
@@ -30,18 +30,18 @@ limits_of l = limits (value_of l.lower) (value_of l.upper)
 
 -- no limits
 abbrev pub unlimited : Limits
-unlimited = limits none none
+unlimited = limits None None
 
 -- the ends of a range
 abbrev pub limited_to : Interval → Limits
-limited_to a = limits (some a.low) (some a.high)
+limited_to a = limits (Some a.low) (Some a.high)
 
 -- ---- the part of a range between limits
 
 -- the limit, or the end where there is none
 abbrev pub or_end : Option ℤ → ℤ → ℤ
-or_end none z = z
-or_end (some l) z = l
+or_end None z = z
+or_end (Some l) z = l
 
 -- a range met with limits (assume.rs 31 to 34)
 unfoldable pub meet : Interval → Limits → Interval
@@ -76,19 +76,19 @@ one_less z = fitted (z -ℤ pos 1)
 
 -- a value of a is less than one of b (105 to 108)
 abbrev pub less_limits : Interval → Interval → Pair
-less_limits a b = pair (limits none (one_less b.high)) (limits (one_more a.low) none)
+less_limits a b = pair (limits None (one_less b.high)) (limits (one_more a.low) None)
 
 -- it is not less (109 to 112)
 abbrev pub not_less_limits : Interval → Interval → Pair
-not_less_limits a b = pair (limits (some b.low) none) (limits none (some a.high))
+not_less_limits a b = pair (limits (Some b.low) None) (limits None (Some a.high))
 
 -- it is at most that of b (113 to 116)
 abbrev pub less_equal_limits : Interval → Interval → Pair
-less_equal_limits a b = pair (limits none (some b.high)) (limits (some a.low) none)
+less_equal_limits a b = pair (limits None (Some b.high)) (limits (Some a.low) None)
 
 -- it is larger (117 to 120)
 abbrev pub greater_limits : Interval → Interval → Pair
-greater_limits a b = pair (limits (one_more b.low) none) (limits none (one_less a.high))
+greater_limits a b = pair (limits (one_more b.low) None) (limits None (one_less a.high))
 
 -- both are equal (121 to 124)
 abbrev pub equal_limits : Interval → Interval → Pair

@@ -1,6 +1,6 @@
 -- Would a guard narrow a node? On the words of the region, before it writes one.
 use Rattle.std.specs.Prelude.{Bool, false, cond, ◌||◌, List, ℕ}
-use Rattle.std.proofs.Math.Option.{Option, none, some}
+use Rattle.std.specs.Prelude.{Option, None, Some}
 use Rattle.word.specs.Option.{given}
 use Rattle.range.specs.Interval.{Interval}
 use Rattle.evaluate.specs.declared.Binary.{Binary}
@@ -19,9 +19,9 @@ narrows_either g a b p = narrows_at g a p.left || narrows_at g b p.right
 
 -- by the ranges of both operands
 abbrev pub narrows_by : List ℕ → Bool → Binary → ℕ → ℕ → Option Interval → Option Interval → Bool
-narrows_by g e o a b none s = false
-narrows_by g e o a b (some x) none = false
-narrows_by g e o a b (some x) (some y) = cond (comparable o x y) (narrows_either g a b (limits_by o e x y)) false
+narrows_by g e o a b None s = false
+narrows_by g e o a b (Some x) None = false
+narrows_by g e o a b (Some x) (Some y) = cond (comparable o x y) (narrows_either g a b (limits_by o e x y)) false
 
 -- a comparison of two nodes, which are resolved
 unfoldable pub narrows_of : List ℕ → Bool → Comparison → Bool

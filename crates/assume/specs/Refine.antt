@@ -1,6 +1,6 @@
 -- Refining a node to limits (assume.rs 26 to 79), on the words of the region.
 use Rattle.std.specs.Prelude.{cond, ◌&&◌, List, ℕ, zero, suc, ◌%◌, ◌^◌, ltb, leb, ℤ, ◌+ℤ◌, ◌-ℤ◌}
-use Rattle.std.proofs.Math.Option.{Option, none, some}
+use Rattle.std.specs.Prelude.{Option, None, Some}
 use Rattle.word.specs.Value.{residue, signed, fitted}
 use Rattle.word.specs.Option.{only, provided, mapped, given}
 use Rattle.range.specs.Interval.{Interval, bounds_of, between}
@@ -19,8 +19,7 @@ use Rattle.fold.specs.Operator.{sums}
 use Rattle.fold.specs.Shape.{same_type, same_binary, is_any, ByConstant, by_constant_at, origin}
 use Rattle.assume.specs.declared.Outcome as declared-outcome
 use Rattle.assume.specs.declared.Outcome.TheVariants as outcomes
-use Rattle.assume.specs.declared.MaybeNext as declared-maybe
-use Rattle.assume.specs.declared.MaybeNext.TheVariants as nexts
+use Rattle.assume.specs.declared.Next as declared-next
 use Rattle.assume.specs.Limits.{Limits, limited_to, meet, narrows}
 
 -- ---- through a sum with a constant
@@ -39,7 +38,7 @@ undone_integer o c z = cond (same_binary o bi.Sub) (fitted (z +ℤ c)) (fitted (
 
 -- the range of x, where x + c or x - c lies in a; none where the ends of a Bits range come out in the other order (48 to 74)
 unfoldable pub undone : ScalarType → Binary → ℕ → Interval → Option Interval
-undone ty.Bool o c a = none
+undone ty.Bool o c a = None
 undone (ty.Bits w) o c a =
     provided (ltb w 128 && is_any sums o) (ordered (undone_bits w o c a.low) (undone_bits w o c a.high))
 undone ty.Integer o c a =
@@ -54,10 +53,10 @@ pub record Next : Type 0 where
 abbrev pub next : ℕ → Interval → Next
 next n a = record { node = n; range = a }
 
--- what a MaybeNext stands for
-abbrev pub next_of : declared-maybe.MaybeNext → Option Next
-next_of (nexts.Some x) = some (next x.node.0 (bounds_of x.range))
-next_of nexts.None = none
+-- a Next that may be there
+abbrev pub next_of : Option declared-next.Next → Option Next
+next_of (Some x) = Some (next x.node.0 (bounds_of x.range))
+next_of None = None
 
 -- the base of an operation by a constant, of type t as the node with range a is (44 to 47, 75 to 77)
 abbrev pub base_by : List ℕ → ScalarType → Interval → ByConstant → Option Next
@@ -65,7 +64,7 @@ base_by g t a c = provided (same_type (type_at g c.base) t) (mapped (next c.base
 
 -- what follows for the base, if node n with range a is, through its Refines, a sum with a constant (40 to 78)
 unfoldable pub base_of : List ℕ → ℕ → Interval → Option Next
-base_of g n a = given (by_constant_at g (origin g n)) (base_by g (type_at g n) a) none
+base_of g n a = given (by_constant_at g (origin g n)) (base_by g (type_at g n) a) None
 
 -- ---- one node
 
@@ -94,20 +93,20 @@ step o x h = record { outcome = o; next = x; words = h }
 -- after the Refine was stored or found: node n gets it as its alias (39)
 abbrev pub alias_to : ℕ → Interval → Reply → List ℕ → Step
 alias_to n a (insert.id m) h = step narrowed (base_of (aliased h n m) n a) (aliased h n m)
-alias_to n a insert.nothing h = step full none h
-alias_to n a insert.room h = step full none h
-alias_to n a insert.units h = step full none h
+alias_to n a insert.nothing h = step full None h
+alias_to n a insert.room h = step full None h
+alias_to n a insert.units h = step full None h
 
 -- node n is narrowed to the range a (38)
 abbrev pub narrow : List ℕ → ℕ → Interval → Step
 narrow g n a =
-    alias_to n a (inserted g (type_at g n) (some a) (node.refine n)).answer (inserted g (type_at g n) (some a) (node.refine n)).words
+    alias_to n a (inserted g (type_at g n) (Some a) (node.refine n)).answer (inserted g (type_at g n) (Some a) (node.refine n)).words
 
 -- node n, which has no alias, refined to limits: nothing is done without a range (28 to 39)
 unfoldable pub refine_step : List ℕ → ℕ → Limits → Step
 refine_step g n l =
-    given (range_at g n) (λ old. cond (narrows (type_at g n) old (meet old l)) (narrow g n (meet old l)) (step unchanged none g))
-    (step unchanged none g)
+    given (range_at g n) (λ old. cond (narrows (type_at g n) old (meet old l)) (narrow g n (meet old l)) (step unchanged None g))
+    (step unchanged None g)
 
 -- ---- from node to node
 
@@ -124,8 +123,8 @@ assumed o h = record { outcome = o; words = h }
 abbrev pub go_on : Outcome → Outcome → Option Next → List ℕ → (List ℕ → ℕ → Limits → Assumed) → Assumed
 go_on so unchanged x h f = assumed so h
 go_on so full x h f = assumed full h
-go_on so narrowed none h f = assumed narrowed h
-go_on so narrowed (some x) h f = f h x.node (limited_to x.range)
+go_on so narrowed None h f = assumed narrowed h
+go_on so narrowed (Some x) h f = f h x.node (limited_to x.range)
 
 -- at most k steps
 abbrev pub refine_up_to : ℕ → Outcome → List ℕ → ℕ → Limits → Assumed

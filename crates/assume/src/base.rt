@@ -7,17 +7,17 @@ ghost use Rattle.graph.specs.Layout.{REGION};
 ghost use Rattle.fold.specs.Shape.{one_by_constant_of};
 ghost use Rattle.assume.specs.Refine.{undone_bits, ordered, undone_integer, undone, next, next_of, base_by, base_of};
 
-use crate::{MaybeNext, Next};
+use crate::Next;
 use evaluate::Binary;
 use evaluate::pattern::low_bits;
 use fold::operator::{is_sum, same_binary};
 use fold::shape::{by_constant_at, origin, same_type};
-use fold::{ByConstant, MaybeByConstant};
+use fold::ByConstant;
 use graph::NodeId;
 use graph::read::type_at;
 use range::arithmetic::between;
-use range::{MaybeRange, Range, ScalarType};
-use word::{MaybeSigned, Signed, Word};
+use range::{Range, ScalarType};
+use word::{Signed, Word};
 
 // The x of Bits(width) with x + offset, or x - offset, equal to the value.
 fn undone_bits(width: u16, op: Binary, offset: Word, value: Signed) -> Word
@@ -31,20 +31,20 @@ fn undone_bits(width: u16, op: Binary, offset: Word, value: Signed) -> Word
 }
 
 // From one to the other, where they come in this order.
-fn ordered(a: Word, b: Word) -> MaybeRange
+fn ordered(a: Word, b: Word) -> Option<Range>
     ensures { interval_of result ≡ ordered (val a) (val b) }
 {
     if a.le(b) {
-        MaybeRange::Some(Range {
+        Some(Range {
             min: a.as_signed(),
             max: b.as_signed(),
         })
     } else {
-        MaybeRange::None
+        None
     }
 }
 
-fn undone_integer(op: Binary, offset: Signed, value: Signed) -> MaybeSigned
+fn undone_integer(op: Binary, offset: Signed, value: Signed) -> Option<Signed>
     ensures { value_of result ≡ undone_integer op (int_of offset) (int_of value) }
 {
     if same_binary(op, Binary::Sub) {
@@ -55,14 +55,14 @@ fn undone_integer(op: Binary, offset: Signed, value: Signed) -> MaybeSigned
 }
 
 // The range of x, where x + offset or x - offset lies in the range.
-fn undone(ty: ScalarType, op: Binary, offset: Word, range: Range) -> MaybeRange
+fn undone(ty: ScalarType, op: Binary, offset: Word, range: Range) -> Option<Range>
     ensures { interval_of result ≡ undone ty op (val offset) (bounds_of range) }
 {
     if !is_sum(op) {
-        return MaybeRange::None;
+        return None;
     }
     match ty {
-        ScalarType::Bool => MaybeRange::None,
+        ScalarType::Bool => None,
         ScalarType::Bits(width) => {
             if width < 128 {
                 ordered(
@@ -70,7 +70,7 @@ fn undone(ty: ScalarType, op: Binary, offset: Word, range: Range) -> MaybeRange
                     undone_bits(width, op, offset, range.max),
                 )
             } else {
-                MaybeRange::None
+                None
             }
         }
         ScalarType::Integer => {
@@ -83,20 +83,20 @@ fn undone(ty: ScalarType, op: Binary, offset: Word, range: Range) -> MaybeRange
     }
 }
 
-fn next_at(node: NodeId, range: MaybeRange) -> MaybeNext
+fn next_at(node: NodeId, range: Option<Range>) -> Option<Next>
     ensures { next_of result ≡ mapped (next node.0) (interval_of range) }
 {
     match range {
-        MaybeRange::Some(bounds) => MaybeNext::Some(Next {
+        Some(bounds) => Some(Next {
             node: node,
             range: bounds,
         }),
-        MaybeRange::None => MaybeNext::None,
+        None => None,
     }
 }
 
 // The base of an operation by a constant, if it has the type.
-fn base_by(g: &[u64], ty: ScalarType, range: Range, shape: ByConstant) -> MaybeNext
+fn base_by(g: &[u64], ty: ScalarType, range: Range, shape: ByConstant) -> Option<Next>
     requires { length g.now ≡ REGION }
     ensures { next_of result ≡ base_by g.now ty (bounds_of range) (one_by_constant_of shape) }
 {
@@ -105,18 +105,18 @@ fn base_by(g: &[u64], ty: ScalarType, range: Range, shape: ByConstant) -> MaybeN
     if same_type(type_at(g, base), ty) {
         next_at(base, undone(ty, op, shape.value, range))
     } else {
-        MaybeNext::None
+        None
     }
 }
 
 // What follows for the base, if the node is, through its Refines, a sum with a constant.
-pub fn base_of(g: &[u64], node: NodeId, range: Range) -> MaybeNext
+pub fn base_of(g: &[u64], node: NodeId, range: Range) -> Option<Next>
     requires { length g.now ≡ REGION }
     ensures { next_of result ≡ base_of g.now node.0 (bounds_of range) }
 {
     let found = by_constant_at(g, origin(g, node));
     match found {
-        MaybeByConstant::Some(shape) => base_by(g, type_at(g, node), range, shape),
-        MaybeByConstant::None => MaybeNext::None,
+        Some(shape) => base_by(g, type_at(g, node), range, shape),
+        None => None,
     }
 }

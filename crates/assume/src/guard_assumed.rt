@@ -14,8 +14,7 @@ use evaluate::Binary;
 use graph::NodeId;
 use graph::read::{range_at, resolve};
 use guard::reading::{behind_nots, comparison_at};
-use guard::{Comparison, MaybeComparison};
-use range::MaybeRange;
+use guard::Comparison;
 
 // The second node, unless the first had no room.
 fn then_refine(g: &mut [u64], first: Outcome, node: NodeId, limits: Limits) -> Outcome
@@ -46,16 +45,16 @@ fn assume_by(
     op: Binary,
     a: NodeId,
     b: NodeId,
-    left: MaybeRange,
-    right: MaybeRange,
+    left: Option<Range>,
+    right: Option<Range>,
 ) -> Outcome
     requires { length g.old ≡ REGION }
     ensures { assumed (outcome_of result) g.new ≡ assumed_by g.old expected op a.0 b.0 (interval_of left) (interval_of right) }
 {
-    let MaybeRange::Some(x) = left else {
+    let Some(x) = left else {
         return Outcome::Unchanged;
     };
-    let MaybeRange::Some(y) = right else {
+    let Some(y) = right else {
         return Outcome::Unchanged;
     };
     if comparable(op, x, y) {
@@ -87,7 +86,7 @@ pub fn assume_guard(g: &mut [u64], condition: NodeId, expected: bool) -> Outcome
     let node = behind.node;
     let found = comparison_at(g, node);
     match found {
-        MaybeComparison::Some(comparison) => assume_comparison(g, behind.expected, comparison),
-        MaybeComparison::None => Outcome::Unchanged,
+        Some(comparison) => assume_comparison(g, behind.expected, comparison),
+        None => Outcome::Unchanged,
     }
 }

@@ -9,13 +9,12 @@ pub mod refine;
 
 use graph::NodeId;
 use range::Range;
-use word::MaybeSigned;
 
 // The least and the largest value, each if there is one.
 #[derive(Clone, Copy)]
 pub struct Limits {
-    pub lower: MaybeSigned,
-    pub upper: MaybeSigned,
+    pub lower: Option<Signed>,
+    pub upper: Option<Signed>,
 }
 
 // The limits of the left and of the right operand.
@@ -40,15 +39,9 @@ pub struct Next {
     pub range: Range,
 }
 
-#[derive(Clone, Copy)]
-pub enum MaybeNext {
-    Some(Next),
-    None,
-}
-
 // What one refinement did, and the node that follows.
 #[derive(Clone, Copy)]
 pub struct Step {
     pub outcome: Outcome,
-    pub next: MaybeNext,
+    pub next: Option<Next>,
 }

@@ -12,14 +12,14 @@ use fold::compare::unsigned_too;
 use fold::operator::{is_strict_order, is_unsigned_order, same_binary};
 use fold::shape::same_type;
 use range::{Range, ScalarType};
-use word::{MaybeSigned, Signed};
+use word::Signed;
 
-fn or_end(limit: MaybeSigned, end: Signed) -> Signed
+fn or_end(limit: Option<Signed>, end: Signed) -> Signed
     ensures { int_of result ≡ or_end (value_of limit) (int_of end) }
 {
     match limit {
-        MaybeSigned::Some(value) => value,
-        MaybeSigned::None => end,
+        Some(value) => value,
+        None => end,
     }
 }
 
@@ -52,13 +52,13 @@ pub fn narrows(ty: ScalarType, old: Range, met: Range) -> bool
     }
 }
 
-fn one_more(value: Signed) -> MaybeSigned
+fn one_more(value: Signed) -> Option<Signed>
     ensures { value_of result ≡ one_more (int_of value) }
 {
     value.checked_add(Signed { lo: 1, hi: 0 })
 }
 
-fn one_less(value: Signed) -> MaybeSigned
+fn one_less(value: Signed) -> Option<Signed>
     ensures { value_of result ≡ one_less (int_of value) }
 {
     value.checked_sub(Signed { lo: 1, hi: 0 })
@@ -71,27 +71,27 @@ pub fn limited_to(range: Range) -> Limits
     let min = range.min;
     let max = range.max;
     Limits {
-        lower: MaybeSigned::Some(min),
-        upper: MaybeSigned::Some(max),
+        lower: Some(min),
+        upper: Some(max),
     }
 }
 
 // A least value alone.
-fn at_least(lower: MaybeSigned) -> Limits
+fn at_least(lower: Option<Signed>) -> Limits
     ensures { limits_of result ≡ limits (value_of lower) none }
 {
     Limits {
         lower: lower,
-        upper: MaybeSigned::None,
+        upper: None,
     }
 }
 
 // A largest value alone.
-fn at_most(upper: MaybeSigned) -> Limits
+fn at_most(upper: Option<Signed>) -> Limits
     ensures { limits_of result ≡ limits none (value_of upper) }
 {
     Limits {
-        lower: MaybeSigned::None,
+        lower: None,
         upper: upper,
     }
 }
@@ -111,8 +111,8 @@ fn not_less_limits(a: Range, b: Range) -> Pair
     let low = b.min;
     let high = a.max;
     Pair {
-        left: at_least(MaybeSigned::Some(low)),
-        right: at_most(MaybeSigned::Some(high)),
+        left: at_least(Some(low)),
+        right: at_most(Some(high)),
     }
 }
 
@@ -122,8 +122,8 @@ fn less_equal_limits(a: Range, b: Range) -> Pair
     let high = b.max;
     let low = a.min;
     Pair {
-        left: at_most(MaybeSigned::Some(high)),
-        right: at_least(MaybeSigned::Some(low)),
+        left: at_most(Some(high)),
+        right: at_least(Some(low)),
     }
 }
 
@@ -146,10 +146,10 @@ fn equal_limits(a: Range, b: Range) -> Pair
 }
 
 // The limit, if two values are equal.
-fn if_equal(a: Signed, b: Signed, limit: MaybeSigned) -> MaybeSigned
+fn if_equal(a: Signed, b: Signed, limit: Option<Signed>) -> Option<Signed>
     ensures { value_of result ≡ provided (eq_z (int_of a) (int_of b)) (value_of limit) }
 {
-    if a.eq(b) { limit } else { MaybeSigned::None }
+    if a.eq(b) { limit } else { None }
 }
 
 // A value of a is not the one value of b: an end of a that is that value goes.
@@ -164,8 +164,8 @@ fn besides(a: Range, b: Range) -> Limits
         }
     } else {
         Limits {
-            lower: MaybeSigned::None,
-            upper: MaybeSigned::None,
+            lower: None,
+            upper: None,
         }
     }
 }

@@ -12,8 +12,7 @@ use evaluate::Binary;
 use graph::NodeId;
 use graph::read::{range_at, resolve, type_at};
 use guard::reading::{behind_nots, comparison_at};
-use guard::{Comparison, MaybeComparison};
-use range::MaybeRange;
+use guard::Comparison;
 
 // Do limits narrow the node that this one is by now?
 fn narrows_at(g: &[u64], node: NodeId, limits: Limits) -> bool
@@ -22,7 +21,7 @@ fn narrows_at(g: &[u64], node: NodeId, limits: Limits) -> bool
 {
     let target = resolve(g, node);
     let range = range_at(g, target);
-    let MaybeRange::Some(old) = range else {
+    let Some(old) = range else {
         return false;
     };
     narrows(type_at(g, target), old, meet(old, limits))
@@ -48,16 +47,16 @@ fn narrows_by(
     op: Binary,
     a: NodeId,
     b: NodeId,
-    left: MaybeRange,
-    right: MaybeRange,
+    left: Option<Range>,
+    right: Option<Range>,
 ) -> bool
     requires { length g.now ≡ REGION }
     ensures { result ≡ narrows_by g.now expected op a.0 b.0 (interval_of left) (interval_of right) }
 {
-    let MaybeRange::Some(x) = left else {
+    let Some(x) = left else {
         return false;
     };
-    let MaybeRange::Some(y) = right else {
+    let Some(y) = right else {
         return false;
     };
     if comparable(op, x, y) {
@@ -89,7 +88,7 @@ pub fn is_narrowing(g: &[u64], condition: NodeId, expected: bool) -> bool
     let node = behind.node;
     let found = comparison_at(g, node);
     match found {
-        MaybeComparison::Some(comparison) => narrows_comparison(g, behind.expected, comparison),
-        MaybeComparison::None => false,
+        Some(comparison) => narrows_comparison(g, behind.expected, comparison),
+        None => false,
     }
 }

@@ -9,13 +9,13 @@ ghost use Rattle.assume.specs.Refine.{next_of, outcome_of, step, alias_to, narro
 
 use crate::base::base_of;
 use crate::limit::{limited_to, meet, narrows};
-use crate::{Limits, MaybeNext, Outcome, Step};
+use crate::{Limits, Outcome, Step};
 use graph::alias::set_alias;
 use graph::insert::insert;
 use graph::layout::LIMIT;
 use graph::read::{range_at, resolve, type_at};
 use graph::{Built, NodeId, Operation};
-use range::{MaybeRange, Range};
+use range::Range;
 
 // Nothing follows.
 fn stopped(outcome: Outcome) -> Step
@@ -23,7 +23,7 @@ fn stopped(outcome: Outcome) -> Step
 {
     Step {
         outcome: outcome,
-        next: MaybeNext::None,
+        next: None,
     }
 }
 
@@ -51,7 +51,7 @@ fn narrow(g: &mut [u64], node: NodeId, range: Range) -> Step
     ensures { step (outcome_of result.outcome) (next_of result.next) g.new ≡ narrow g.old node.0 (bounds_of range) }
 {
     let ty = type_at(g, node);
-    let built = insert(g, ty, MaybeRange::Some(range), Operation::Refine(node));
+    let built = insert(g, ty, Some(range), Operation::Refine(node));
     alias_to(g, node, range, built)
 }
 
@@ -61,7 +61,7 @@ fn refine_step(g: &mut [u64], node: NodeId, limits: Limits) -> Step
     ensures { step (outcome_of result.outcome) (next_of result.next) g.new ≡ refine_step g.old node.0 (limits_of limits) }
 {
     let range = range_at(g, node);
-    let MaybeRange::Some(old) = range else {
+    let Some(old) = range else {
         return stopped(Outcome::Unchanged);
     };
     let met = meet(old, limits);
@@ -91,7 +91,7 @@ pub fn refine(g: &mut [u64], so_far: Outcome, node: NodeId, limits: Limits) -> O
             Outcome::Narrowed => {}
         }
         let next = step.next;
-        let MaybeNext::Some(more) = next else {
+        let Some(more) = next else {
             return Outcome::Narrowed;
         };
         done = Outcome::Narrowed;

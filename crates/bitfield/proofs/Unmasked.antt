@@ -2,7 +2,7 @@
 use mathlib.Core.Path.{◌≡◌, refl}
 use mathlib.Core.Bool.{Bool, true, false, cond}
 use mathlib.Core.List.{List}
-use mathlib.Core.Option.{none, some}
+use Rattle.std.specs.Prelude.{None, Some}
 use Prim.Native.Nat.{ℕ}
 use lib.Dec.{eqb, ltb}
 use Rattle.word.specs.Option.{given}
@@ -20,17 +20,17 @@ either f b true p q = p
 either f b false p q = q
 
 -- the operation of such a code is none with a constant
-by_none : (g : List ℕ) (code x y z : ℕ) → ltb code BINARY ≡ true → by_constant_of g (operation_of code x y z) ≡ none
+by_none : (g : List ℕ) (code x y z : ℕ) → ltb code BINARY ≡ true → by_constant_of g (operation_of code x y z) ≡ None
 by_none g code x y z h =
     rw h
-    (either (by_constant_of g) none (eqb code CONSTANT) refl
-    (either (by_constant_of g) none (eqb code INPUT) refl
-    (either (by_constant_of g) none (eqb code REFINE) refl
-    (either (by_constant_of g) none (eqb code EFFECT) refl
-    (either (by_constant_of g) none (eqb code SLICE) refl (either (by_constant_of g) none (eqb code CONCAT) refl refl))))))
+    (either (by_constant_of g) None (eqb code CONSTANT) refl
+    (either (by_constant_of g) None (eqb code INPUT) refl
+    (either (by_constant_of g) None (eqb code REFINE) refl
+    (either (by_constant_of g) None (eqb code EFFECT) refl
+    (either (by_constant_of g) None (eqb code SLICE) refl (either (by_constant_of g) None (eqb code CONCAT) refl refl))))))
 
 -- and an update that sets nothing
-update_same : (g : List ℕ) (n code x y z : ℕ) → ltb code BINARY ≡ true → update_of g n (operation_of code x y z) ≡ some (record { preserved = n; literal = 0 })
+update_same : (g : List ℕ) (n code x y z : ℕ) → ltb code BINARY ≡ true → update_of g n (operation_of code x y z) ≡ Some (record { preserved = n; literal = 0 })
 update_same g n code x y z h =
     rw h
     (either (update_of g n) _ (eqb code CONSTANT) refl
@@ -54,6 +54,6 @@ unfolding fold_pair
 pair_next g o base n h = typed_next g o base n (type_at g base) h
 
 pub unmasked : (g : List ℕ) (o : Binary) (l r : ℕ) → ltb (word_at g l OPERATION) BINARY ≡ true → ltb (word_at g r OPERATION) BINARY ≡ true
-    → fold_masked_comparison g o l r ≡ none
+    → fold_masked_comparison g o l r ≡ None
 unfolding fold_masked_comparison
 unmasked g o l r h k = rw (pair_next g o l r k, pair_next g o r l h)

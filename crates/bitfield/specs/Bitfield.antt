@@ -1,6 +1,6 @@
 -- Single bits of nodes, and the two folds of bitfield.rs.
 use Rattle.std.specs.Prelude.{Bool, true, false, cond, not, ◌&&◌, ◌||◌, List, ℕ, zero, suc, ◌+◌, ◌-◌, ◌/◌, ◌%◌, ◌^◌, eqb, ltb, leb}
-use Rattle.std.proofs.Math.Option.{Option, none, some}
+use Rattle.std.specs.Prelude.{Option, None, Some}
 use Rattle.std.specs.Int.Bits.{bit_and, bit_or}
 use Rattle.word.specs.Value.{val}
 use Rattle.word.specs.Option.{only, provided, given}
@@ -18,20 +18,12 @@ use Rattle.fold.specs.Shape.{same_type, narrow_type, same_binary, fits, mask, By
 use Rattle.bitfield.specs.declared.Masked as declared-mask
 use Rattle.bitfield.specs.declared.Bit as declared
 use Rattle.bitfield.specs.declared.Bit.TheVariants as declared-bit
-use Rattle.bitfield.specs.declared.MaybeBit as declared-maybe
-use Rattle.bitfield.specs.declared.MaybeBit.TheVariants as maybe
 use Rattle.bitfield.specs.declared.BitStep as declared-step
 use Rattle.bitfield.specs.declared.BitStep.TheVariants as step
 use Rattle.bitfield.specs.declared.Field as declared-field
-use Rattle.bitfield.specs.declared.MaybeField as declared-fields
-use Rattle.bitfield.specs.declared.MaybeField.TheVariants as fields
 use Rattle.bitfield.specs.declared.Update as declared-update
-use Rattle.bitfield.specs.declared.MaybeUpdate as declared-updates
-use Rattle.bitfield.specs.declared.MaybeUpdate.TheVariants as updates
 use Rattle.bitfield.specs.declared.PairFold as declared-pair
 use Rattle.bitfield.specs.declared.PairFold.TheVariants as pairs
-use Rattle.bitfield.specs.declared.MaybeMasked as declared-masked
-use Rattle.bitfield.specs.declared.MaybeMasked.TheVariants as maybe-masked
 
 -- ---- one bit (bitfield.rs 9 to 66)
 
@@ -90,13 +82,13 @@ bit_step g n i = cond (leb 128 i || above (type_at g n) i) (here (known false)) 
 
 -- a known bit turned over; what is not known comes to None
 abbrev pub negated_bit : Option Bit → Option Bit
-negated_bit none = none
-negated_bit (some (known b)) = some (known (not b))
-negated_bit (some (source n i)) = none
+negated_bit None = None
+negated_bit (Some (known b)) = Some (known (not b))
+negated_bit (Some (source n i)) = None
 
 -- a bit by its step, and by what stands for the operands' bits
 abbrev pub reached : BitStep → (ℕ → ℕ → Option Bit) → Option Bit
-reached (here b) f = some b
+reached (here b) f = Some b
 reached (from p i) f = f p i
 reached (flipped p i) f = negated_bit (f p i)
 
@@ -106,7 +98,7 @@ DEPTH = 64
 
 -- bit i of node n by at most k steps
 unfoldable pub bit_at : List ℕ → ℕ → ℕ → ℕ → Option Bit
-bit_at g zero n i = none
+bit_at g zero n i = None
 bit_at g (suc k) n i = reached (bit_step g n i) (bit_at g k)
 
 -- ---- concats of one node's own bits and of constants (bitfield.rs 68 to 114)
@@ -119,7 +111,7 @@ pub record Field : Type 0 where
 
 -- no bits
 abbrev pub no_bits : Field
-no_bits = record { base = none; keep = 0; literal = 0 }
+no_bits = record { base = None; keep = 0; literal = 0 }
 
 -- the pattern in which bit i alone is set
 abbrev pub power : ℕ → ℕ
@@ -127,13 +119,13 @@ power i = 2 ^ i % 2 ^ 128
 
 -- is there no node yet, or this one?
 abbrev pub same_base : Option ℕ → ℕ → Bool
-same_base none n = true
-same_base (some b) n = eqb b n
+same_base None n = true
+same_base (Some b) n = eqb b n
 
 -- the bits with bit i: it is known, or the same bit of the one node
 abbrev pub with_bit : Field → ℕ → Bit → Option Field
-with_bit f i (known b) = some (record { base = f.base; keep = f.keep; literal = cond b (bit_or f.literal (power i)) f.literal })
-with_bit f i (source n s) = only (eqb s i && same_base f.base n) (record { base = some n; keep = bit_or f.keep (power i); literal = f.literal })
+with_bit f i (known b) = Some (record { base = f.base; keep = f.keep; literal = cond b (bit_or f.literal (power i)) f.literal })
+with_bit f i (source n s) = only (eqb s i && same_base f.base n) (record { base = Some n; keep = bit_or f.keep (power i); literal = f.literal })
 
 -- bit i of a concat
 abbrev pub concat_bit : List ℕ → ℕ → ℕ → ℕ → ℕ → Option Bit
@@ -141,9 +133,9 @@ concat_bit g high low v i = cond (ltb i v) (bit_at g DEPTH low i) (bit_at g DEPT
 
 -- the bits with the k from i on
 abbrev pub field_from : List ℕ → ℕ → ℕ → ℕ → ℕ → ℕ → Field → Option Field
-field_from g high low v i zero f = some f
+field_from g high low v i zero f = Some f
 field_from g high low v i (suc k) f =
-    given (concat_bit g high low v i) (λ b. given (with_bit f i b) (λ h. field_from g high low v (suc i) k h) none) none
+    given (concat_bit g high low v i) (λ b. given (with_bit f i b) (λ h. field_from g high low v (suc i) k h) None) None
 
 -- has the low part no bits from its width on?
 abbrev pub low_fits : List ℕ → ℕ → ℕ → Bool
@@ -171,15 +163,15 @@ pub record Update : Type 0 where
 
 -- an Or needs a constant, without which the fold ends
 abbrev pub update_of : List ℕ → ℕ → Op → Option Update
-update_of g n (node.constant c) = some (record { preserved = n; literal = 0 })
-update_of g n (node.input i) = some (record { preserved = n; literal = 0 })
-update_of g n (node.refine i) = some (record { preserved = n; literal = 0 })
-update_of g n (node.effect i) = some (record { preserved = n; literal = 0 })
-update_of g n (node.slice i o w) = some (record { preserved = n; literal = 0 })
-update_of g n (node.concat i j w) = some (record { preserved = n; literal = 0 })
-update_of g n (node.unary u i) = some (record { preserved = n; literal = 0 })
+update_of g n (node.constant c) = Some (record { preserved = n; literal = 0 })
+update_of g n (node.input i) = Some (record { preserved = n; literal = 0 })
+update_of g n (node.refine i) = Some (record { preserved = n; literal = 0 })
+update_of g n (node.effect i) = Some (record { preserved = n; literal = 0 })
+update_of g n (node.slice i o w) = Some (record { preserved = n; literal = 0 })
+update_of g n (node.concat i j w) = Some (record { preserved = n; literal = 0 })
+update_of g n (node.unary u i) = Some (record { preserved = n; literal = 0 })
 update_of g n (node.binary o i j) =
-    cond (same_binary o bi.Or) (given (graph.literal g j) (λ c. some (record { preserved = i; literal = c })) none) (some (record { preserved = n; literal = 0 }))
+    cond (same_binary o bi.Or) (given (graph.literal g j) (λ c. Some (record { preserved = i; literal = c })) None) (Some (record { preserved = n; literal = 0 }))
 
 -- node n as an update
 unfoldable pub update_at : List ℕ → ℕ → Option Update
@@ -218,15 +210,15 @@ fold_pair g o base updated = fold_typed g o base updated (type_at g base)
 
 -- the mask that was found, if any
 abbrev pub found_in : PairFold → Option Mask
-found_in next = none
-found_in end = none
-found_in (found m) = some m
+found_in next = None
+found_in end = None
+found_in (found m) = Some m
 
 -- the first pair, or where it says so the second
 abbrev pub first_found : PairFold → PairFold → Option Mask
 first_found next l = found_in l
-first_found end l = none
-first_found (found m) l = some m
+first_found end l = None
+first_found (found m) l = Some m
 
 -- the masked comparison of two nodes, either being the base
 unfoldable pub fold_masked_comparison : List ℕ → Binary → ℕ → ℕ → Option Mask
@@ -243,10 +235,10 @@ abbrev pub one_bit_of : declared.Bit → Bit
 one_bit_of (declared-bit.Known b) = known b
 one_bit_of (declared-bit.Source n i) = source n.0 i
 
--- a MaybeBit
-abbrev pub maybe_bit_of : declared-maybe.MaybeBit → Option Bit
-maybe_bit_of (maybe.Some b) = some (one_bit_of b)
-maybe_bit_of maybe.None = none
+-- a Bit that may be there
+abbrev pub maybe_bit_of : Option declared.Bit → Option Bit
+maybe_bit_of (Some b) = Some (one_bit_of b)
+maybe_bit_of None = None
 
 -- a BitStep
 abbrev pub step_of : declared-step.BitStep → BitStep
@@ -258,19 +250,19 @@ step_of (step.Flipped n i) = flipped n.0 i
 abbrev pub field_of : declared-field.Field → Field
 field_of f = record { base = id_of f.base; keep = val f.keep; literal = val f.literal }
 
--- a MaybeField
-abbrev pub maybe_field_of : declared-fields.MaybeField → Option Field
-maybe_field_of (fields.Some f) = some (field_of f)
-maybe_field_of fields.None = none
+-- a Field that may be there
+abbrev pub maybe_field_of : Option declared-field.Field → Option Field
+maybe_field_of (Some f) = Some (field_of f)
+maybe_field_of None = None
 
 -- an Update
 abbrev pub one_update_of : declared-update.Update → Update
 one_update_of u = record { preserved = u.preserved.0; literal = val u.literal }
 
--- a MaybeUpdate
-abbrev pub maybe_update_of : declared-updates.MaybeUpdate → Option Update
-maybe_update_of (updates.Some u) = some (one_update_of u)
-maybe_update_of updates.None = none
+-- an Update that may be there
+abbrev pub maybe_update_of : Option declared-update.Update → Option Update
+maybe_update_of (Some u) = Some (one_update_of u)
+maybe_update_of None = None
 
 -- a PairFold
 abbrev pub pair_fold_of : declared-pair.PairFold → PairFold
@@ -278,7 +270,7 @@ pair_fold_of pairs.Next = next
 pair_fold_of pairs.End = end
 pair_fold_of (pairs.Found m) = found (mask_of m)
 
--- a MaybeMasked
-abbrev pub maybe_mask_of : declared-masked.MaybeMasked → Option Mask
-maybe_mask_of (maybe-masked.Some m) = some (mask_of m)
-maybe_mask_of maybe-masked.None = none
+-- a Masked that may be there
+abbrev pub maybe_mask_of : Option declared-mask.Masked → Option Mask
+maybe_mask_of (Some m) = Some (mask_of m)
+maybe_mask_of None = None

@@ -1,13 +1,13 @@
 -- The early test of the bitfield fold: one bit of a concat that rules it out.
 use Rattle.std.specs.Prelude.{Bool, true, false, not, cond, List, ℕ, eqb, ltb}
-use Rattle.std.proofs.Math.Option.{Option, none, some}
+use Rattle.std.specs.Prelude.{Option, None, Some}
 use Rattle.bitfield.specs.Bitfield.{Bit, known, source, concat_bit}
 
 -- is it neither known nor a bit of a node at the same place?
 abbrev pub misplaced : Option Bit → ℕ → Bool
-misplaced none i = true
-misplaced (some (known b)) i = false
-misplaced (some (source n s)) i = not (eqb s i)
+misplaced None i = true
+misplaced (Some (known b)) i = false
+misplaced (Some (source n s)) i = not (eqb s i)
 
 -- does the high part's first bit rule the fold out?
 abbrev pub ruled_out : List ℕ → ℕ → ℕ → ℕ → ℕ → Bool

@@ -1,5 +1,5 @@
 -- How often a bit is turned over on the way to the node that it comes from.
-use Rattle.std.proofs.Math.Option.{Option}
+use Rattle.std.specs.Prelude.{Option}
 use Rattle.bitfield.specs.declared.Turns.{Turns}
 use Rattle.bitfield.specs.declared.Turns.TheVariants as turns
 use Rattle.bitfield.specs.Bitfield.{Bit, negated_bit}

@@ -7,13 +7,13 @@ ghost use Rattle.graph.specs.Node.{op_of};
 ghost use Rattle.bitfield.specs.Bitfield.{step_of, maybe_bit_of, has_bit, above, masked_bit, unary_bit, bit_of, bit_step, bit_at, negated_bit, here, from, flipped, known, source};
 ghost use Rattle.bitfield.specs.Turns.{once_more, turned_by};
 
-use crate::{Bit, BitStep, MaybeBit, Turns};
+use crate::{Bit, BitStep, Turns};
 use evaluate::{Binary, Unary};
 use fold::operator::same_binary;
 use graph::read::{literal, operation_at, type_at};
 use graph::{NodeId, Operation};
 use range::ScalarType;
-use word::{MaybeWord, Word};
+use word::Word;
 
 // The most steps.
 pub const DEPTH: u64 = 64;
@@ -109,13 +109,13 @@ fn unary_bit(op: Unary, id: NodeId, value: NodeId, index: u64) -> BitStep
 }
 
 // A bit of a binary operation; `mask` is its right operand's constant.
-fn binary_bit(op: Binary, id: NodeId, mask: MaybeWord, base: NodeId, index: u64) -> BitStep
+fn binary_bit(op: Binary, id: NodeId, mask: Option<Word>, base: NodeId, index: u64) -> BitStep
     requires { index < 128 }
     ensures { step_of result ≡ given (number_of mask) (λ c. masked_bit op id.0 (has_bit c index) base.0 index) (here (source id.0 index)) }
 {
     match mask {
-        MaybeWord::Some(constant) => masked_bit(op, id, has_bit(constant, index), base, index),
-        MaybeWord::None => own(id, index),
+        Some(constant) => masked_bit(op, id, has_bit(constant, index), base, index),
+        None => own(id, index),
     }
 }
 
@@ -170,15 +170,15 @@ fn bit_step(g: &[u64], id: NodeId, index: u64) -> BitStep
 }
 
 // A known bit turned over; what is not known comes to None.
-fn negated_bit(bit: MaybeBit) -> MaybeBit
+fn negated_bit(bit: Option<Bit>) -> Option<Bit>
     ensures { maybe_bit_of result ≡ negated_bit (maybe_bit_of bit) }
 {
-    let MaybeBit::Some(found) = bit else {
-        return MaybeBit::None;
+    let Some(found) = bit else {
+        return None;
     };
     match found {
-        Bit::Known(value) => MaybeBit::Some(Bit::Known(!value)),
-        Bit::Source(_, _) => MaybeBit::None,
+        Bit::Known(value) => Some(Bit::Known(!value)),
+        Bit::Source(_, _) => None,
     }
 }
 
@@ -194,7 +194,7 @@ fn once_more(turns: Turns) -> Turns
 }
 
 // A bit after these turns.
-fn turned_by(turns: Turns, bit: MaybeBit) -> MaybeBit
+fn turned_by(turns: Turns, bit: Option<Bit>) -> Option<Bit>
     ensures { maybe_bit_of result ≡ turned_by turns (maybe_bit_of bit) }
 {
     match turns {
@@ -205,7 +205,7 @@ fn turned_by(turns: Turns, bit: MaybeBit) -> MaybeBit
 }
 
 // A bit of a node, by at most `left` steps.
-pub fn bit(g: &[u64], id: NodeId, index: u64, left: u64) -> MaybeBit
+pub fn bit(g: &[u64], id: NodeId, index: u64, left: u64) -> Option<Bit>
     requires { length g.now ≡ REGION }
     ensures { maybe_bit_of result ≡ bit_at g.now left id.0 index }
 {
@@ -218,7 +218,7 @@ pub fn bit(g: &[u64], id: NodeId, index: u64, left: u64) -> MaybeBit
         steps -= 1;
         match step {
             BitStep::Here(found) => {
-                return turned_by(turns, MaybeBit::Some(found));
+                return turned_by(turns, Some(found));
             }
             BitStep::From(source, at) => {
                 node = source.0;
@@ -231,5 +231,5 @@ pub fn bit(g: &[u64], id: NodeId, index: u64, left: u64) -> MaybeBit
             }
         }
     }
-    MaybeBit::None
+    None
 }

@@ -10,31 +10,31 @@ ghost use Rattle.fold.specs.Shape.{one_by_constant_of};
 ghost use Rattle.bitfield.specs.Bitfield.{mask_of};
 ghost use Rattle.bitfield.specs.Bitfield.{maybe_update_of, one_update_of, update_of, update_at, pair_fold_of, keeps, changed_bits, fold_update, fold_typed, fold_pair, found_in, maybe_mask_of, fold_masked_comparison};
 
-use crate::{Masked, MaybeMasked, MaybeUpdate, PairFold, Update};
+use crate::{Masked, PairFold, Update};
 use evaluate::Binary;
 use evaluate::code::BINARY;
 use fold::operator::same_binary;
 use fold::shape::{by_constant_at, same_type};
-use fold::{ByConstant, MaybeByConstant};
+use fold::ByConstant;
 use graph::layout::{OPERATION, word_at};
 use graph::read::{literal, operation_at, type_at};
 use graph::{NodeId, Operation};
 use range::ScalarType;
 use range::typed::mask;
-use word::{MaybeWord, Word};
+use word::Word;
 
 // An update that sets nothing.
-fn sets_nothing(id: NodeId) -> MaybeUpdate
+fn sets_nothing(id: NodeId) -> Option<Update>
     ensures { maybe_update_of result ≡ some (record { preserved = id.0; literal = 0 }) }
 {
-    MaybeUpdate::Some(Update {
+    Some(Update {
         preserved: id,
         literal: Word { lo: 0, hi: 0 },
     })
 }
 
 // An Or needs a constant, without which the fold ends.
-fn binary_update(g: &[u64], id: NodeId, op: Binary, left: NodeId, right: NodeId) -> MaybeUpdate
+fn binary_update(g: &[u64], id: NodeId, op: Binary, left: NodeId, right: NodeId) -> Option<Update>
     requires { length g.now ≡ REGION }
     ensures { maybe_update_of result ≡ update_of g.now id.0 (node.binary op left.0 right.0) }
 {
@@ -43,15 +43,15 @@ fn binary_update(g: &[u64], id: NodeId, op: Binary, left: NodeId, right: NodeId)
     }
     let value = literal(g, right);
     match value {
-        MaybeWord::Some(constant) => MaybeUpdate::Some(Update {
+        Some(constant) => Some(Update {
             preserved: left,
             literal: constant,
         }),
-        MaybeWord::None => MaybeUpdate::None,
+        None => None,
     }
 }
 
-fn update_at(g: &[u64], id: NodeId) -> MaybeUpdate
+fn update_at(g: &[u64], id: NodeId) -> Option<Update>
     requires { length g.now ≡ REGION }
     ensures { maybe_update_of result ≡ update_at g.now id.0 }
 {
@@ -113,7 +113,7 @@ fn fold_update(g: &[u64], op: Binary, base: NodeId, width: u16, update: Update) 
 {
     let literal = update.literal;
     let preserved = by_constant_at(g, update.preserved);
-    let MaybeByConstant::Some(shape) = preserved else {
+    let Some(shape) = preserved else {
         return PairFold::Next;
     };
     if keeps(base, width, literal, shape) {
@@ -132,8 +132,8 @@ fn fold_pair_of_bits(g: &[u64], op: Binary, base: NodeId, updated: NodeId, width
     }
     let found = update_at(g, updated);
     match found {
-        MaybeUpdate::Some(update) => fold_update(g, op, base, width, update),
-        MaybeUpdate::None => PairFold::End,
+        Some(update) => fold_update(g, op, base, width, update),
+        None => PairFold::End,
     }
 }
 
@@ -150,13 +150,13 @@ fn fold_pair(g: &[u64], op: Binary, base: NodeId, updated: NodeId) -> PairFold
     }
 }
 
-fn found_in(pair: PairFold) -> MaybeMasked
+fn found_in(pair: PairFold) -> Option<Masked>
     ensures { maybe_mask_of result ≡ found_in (pair_fold_of pair) }
 {
     match pair {
-        PairFold::Next => MaybeMasked::None,
-        PairFold::End => MaybeMasked::None,
-        PairFold::Found(masked) => MaybeMasked::Some(masked),
+        PairFold::Next => None,
+        PairFold::End => None,
+        PairFold::Found(masked) => Some(masked),
     }
 }
 
@@ -168,17 +168,17 @@ fn is_not_binary(g: &[u64], id: NodeId) -> bool
 }
 
 // The masked comparison of two nodes: the left one as base, or where it says so the right one. Where neither is a binary operation there is none.
-pub fn fold_masked_comparison(g: &[u64], op: Binary, left: NodeId, right: NodeId) -> MaybeMasked
+pub fn fold_masked_comparison(g: &[u64], op: Binary, left: NodeId, right: NodeId) -> Option<Masked>
     requires { length g.now ≡ REGION }
     ensures { maybe_mask_of result ≡ fold_masked_comparison g.now op left.0 right.0 }
 {
     if is_not_binary(g, left) && is_not_binary(g, right) {
-        return MaybeMasked::None;
+        return None;
     }
     let pair = fold_pair(g, op, left, right);
     match pair {
         PairFold::Next => found_in(fold_pair(g, op, right, left)),
-        PairFold::End => MaybeMasked::None,
-        PairFold::Found(masked) => MaybeMasked::Some(masked),
+        PairFold::End => None,
+        PairFold::Found(masked) => Some(masked),
     }
 }

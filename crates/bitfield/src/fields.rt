@@ -8,8 +8,7 @@ ghost use Rattle.bitfield.specs.Bitfield.{maybe_bit_of, maybe_field_of, power, s
 ghost use Rattle.bitfield.specs.Early.{misplaced, ruled_out};
 
 use crate::bits::{DEPTH, bit};
-use crate::{Bit, Field, MaybeBit, MaybeField};
-use fold::MaybeId;
+use crate::{Bit, Field};
 use fold::shape::{fits, is_narrow};
 use graph::NodeId;
 use graph::read::{range_at, type_at};
@@ -24,12 +23,12 @@ fn power(index: u16) -> Word
 }
 
 // Is there no node yet, or this one?
-fn is_base(base: MaybeId, id: NodeId) -> bool
+fn is_base(base: Option<NodeId>, id: NodeId) -> bool
     ensures { result ≡ same_base (id_of base) id.0 }
 {
     match base {
-        MaybeId::Some(other) => other.0 == id.0,
-        MaybeId::None => true,
+        Some(other) => other.0 == id.0,
+        None => true,
     }
 }
 
@@ -45,13 +44,13 @@ fn with_known(literal: Word, index: u16, value: bool) -> Word
 }
 
 // Is it the same bit of the one node?
-fn is_own(base: MaybeId, index: u16, id: NodeId, source: u64) -> bool
+fn is_own(base: Option<NodeId>, index: u16, id: NodeId, source: u64) -> bool
     ensures { result ≡ (eqb source index && same_base (id_of base) id.0) }
 {
     source == index as u64 && is_base(base, id)
 }
 
-fn concat_bit(g: &[u64], high: NodeId, low: NodeId, low_width: u16, index: u16) -> MaybeBit
+fn concat_bit(g: &[u64], high: NodeId, low: NodeId, low_width: u16, index: u16) -> Option<Bit>
     requires { length g.now ≡ REGION }
     ensures { maybe_bit_of result ≡ concat_bit g.now high.0 low.0 low_width index }
 {
@@ -74,11 +73,11 @@ fn low_fits(g: &[u64], low: NodeId, low_width: u16) -> bool
     }
 }
 
-fn all_bits(g: &[u64], high: NodeId, low: NodeId, low_width: u16, width: u16) -> MaybeField
+fn all_bits(g: &[u64], high: NodeId, low: NodeId, low_width: u16, width: u16) -> Option<Field>
     requires { length g.now ≡ REGION }
     ensures { maybe_field_of result ≡ field_from g.now high.0 low.0 low_width 0 width no_bits }
 {
-    let mut base = MaybeId::None;
+    let mut base = None;
     let mut keep = Word { lo: 0, hi: 0 };
     let mut literal = Word { lo: 0, hi: 0 };
     let mut index = 0;
@@ -86,8 +85,8 @@ fn all_bits(g: &[u64], high: NodeId, low: NodeId, low_width: u16, width: u16) ->
         let bit = concat_bit(g, high, low, low_width, index);
         let at = index;
         index += 1;
-        let MaybeBit::Some(found) = bit else {
-            return MaybeField::None;
+        let Some(found) = bit else {
+            return None;
         };
         match found {
             Bit::Known(value) => {
@@ -95,14 +94,14 @@ fn all_bits(g: &[u64], high: NodeId, low: NodeId, low_width: u16, width: u16) ->
             }
             Bit::Source(id, source) => {
                 if !is_own(base, at, id, source) {
-                    return MaybeField::None;
+                    return None;
                 }
-                base = MaybeId::Some(id);
+                base = Some(id);
                 keep = keep.bitor(power(at));
             }
         }
     }
-    MaybeField::Some(Field {
+    Some(Field {
         base: base,
         keep: keep,
         literal: literal,
@@ -110,10 +109,10 @@ fn all_bits(g: &[u64], high: NodeId, low: NodeId, low_width: u16, width: u16) ->
 }
 
 // Is it neither known nor a bit of a node at the same place?
-fn is_misplaced(bit: MaybeBit, index: u16) -> bool
+fn is_misplaced(bit: Option<Bit>, index: u16) -> bool
     ensures { result ≡ misplaced (maybe_bit_of bit) index }
 {
-    let MaybeBit::Some(found) = bit else {
+    let Some(found) = bit else {
         return true;
     };
     match found {
@@ -141,17 +140,17 @@ pub fn fold_bitfield_concat(
     low: NodeId,
     low_width: u16,
     width: u16,
-) -> MaybeField
+) -> Option<Field>
     requires { length g.now ≡ REGION }
     ensures { maybe_field_of result ≡ fold_bitfield_concat g.now high.0 low.0 low_width width }
 {
     if low_fits(g, low, low_width) {
         if is_ruled_out(g, high, low, low_width, width) {
-            MaybeField::None
+            None
         } else {
             all_bits(g, high, low, low_width, width)
         }
     } else {
-        MaybeField::None
+        None
     }
 }

@@ -6,7 +6,6 @@ pub mod equality;
 pub mod fields;
 
 use evaluate::Binary;
-use fold::MaybeId;
 use graph::NodeId;
 use range::ScalarType;
 use word::Word;
@@ -22,23 +21,11 @@ pub struct Masked {
     pub literal: Word,
 }
 
-#[derive(Clone, Copy)]
-pub enum MaybeMasked {
-    Some(Masked),
-    None,
-}
-
 // A bit that is known, or a bit of a node.
 #[derive(Clone, Copy)]
 pub enum Bit {
     Known(bool),
     Source(NodeId, u64),
-}
-
-#[derive(Clone, Copy)]
-pub enum MaybeBit {
-    Some(Bit),
-    None,
 }
 
 // Where a bit of a node comes from: this one, a bit of an operand, or that bit turned over.
@@ -60,15 +47,9 @@ pub enum Turns {
 // The bits of a concat so far: the node that some come from, the mask of those, and the ones among the others.
 #[derive(Clone, Copy)]
 pub struct Field {
-    pub base: MaybeId,
+    pub base: Option<NodeId>,
     pub keep: Word,
     pub literal: Word,
-}
-
-#[derive(Clone, Copy)]
-pub enum MaybeField {
-    Some(Field),
-    None,
 }
 
 // What an update of a base keeps of it, and the literal that it sets.
@@ -76,12 +57,6 @@ pub enum MaybeField {
 pub struct Update {
     pub preserved: NodeId,
     pub literal: Word,
-}
-
-#[derive(Clone, Copy)]
-pub enum MaybeUpdate {
-    Some(Update),
-    None,
 }
 
 // One pair of base and update: the other pair is next, the fold ends, or it is found.

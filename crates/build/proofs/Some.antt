@@ -3,7 +3,7 @@ use Prim.Native.Nat.{ℕ, zero, suc, ◌+◌, ◌-◌}
 use mathlib.Core.Path.{◌≡◌, refl, ap, ◌∙◌}
 use mathlib.Core.Bool.{Bool, true, false, cond, false≢true, ◌&&◌, ◌||◌}
 use mathlib.Core.List.{List}
-use mathlib.Core.Option.{Option, none, some}
+use Rattle.std.specs.Prelude.{Option, None, Some}
 use lib.Dec.{eqb, ltb, leb}
 use Rattle.word.specs.Value.{residue}
 use Rattle.word.specs.Option.{only, provided, given}
@@ -52,8 +52,8 @@ unfolding inserted
 inserted-some g t r o = by (interned g o (words_of t r o))
   where
     by : (x : Option ℕ) → IsSome (found_or g x (appended g (words_of t r o))).answer
-    by none = appended-some g (words_of t r o)
-    by (some n) = tt
+    by None = appended-some g (words_of t r o)
+    by (Some n) = tt
 
 -- so does a constant
 pub constant_answers : (g : List ℕ) (t : ScalarType) (v : ℕ) → IsSome (constant g t v).answer
@@ -152,15 +152,15 @@ unfolding slice_plan
 plan_sure g v o w = by (range_at g v) refl
   where
     choose : (x y z : Bool) → (z ≡ true → fits w (range_at g v) ≡ true)
-        → Sure g (given (provided x (cond y (some (plan.constant (ty.Bits w) 0)) (only z (plan.identity (ty.Bits w) v)))) (λ p. p) (slice_part g v o w))
+        → Sure g (given (provided x (cond y (Some (plan.constant (ty.Bits w) 0)) (only z (plan.identity (ty.Bits w) v)))) (λ p. p) (slice_part g v o w))
     choose false y z f = part_sure g v o w
     choose true true z f = tt
     choose true false true f = f refl
     choose true false false f = part_sure g v o w
 
     by : (r : Option Interval) → range_at g v ≡ r → Sure g (given (bounded_plan r v o w) (λ p. p) (slice_part g v o w))
-    by none e = part_sure g v o w
-    by (some a) e =
+    by None e = part_sure g v o w
+    by (Some a) e =
         choose (nonnegative a) (eqb (lowered (residue 128 a.high) o) 0) (eqb o 0 && inside_bits w a)
         (λ q. ap (fits w) e ∙ (tests (eqb o 0) (inside_bits w a) q).1)
 
@@ -208,11 +208,11 @@ module _ (t : ℕ) (slices : (v o w u : ℕ) (g : List ℕ) → IsSome (reply (r
     where
       by : (c : Option ℕ) (z : Bool)
           → IsSome (reply (exec (run t) (first_prog (given c (λ k. plan.does (plan.constant (ty.Bits w) (lowered k o))) (cond z (plan.tries (plan.modular v w) (plan.slice_rest v o w)) (plan.does (slice_plan g v o w))))) u g))
-      by (some k) z = sure_some (plan.constant (ty.Bits w) (lowered k o)) u g tt
-      by none true =
+      by (Some k) z = sure_some (plan.constant (ty.Bits w) (lowered k o)) u g tt
+      by None true =
           tries-some (run t) (attempt_prog (plan.modular v w)) (λ h. plan_prog (slice_plan h v o w)) u g
           (λ i h. sure_some (slice_plan h v o w) i h (plan_sure h v o w))
-      by none false = sure_some (slice_plan g v o w) u g (plan_sure g v o w)
+      by None false = sure_some (slice_plan g v o w) u g (plan_sure g v o w)
 
   concat-node : (h l v w u : ℕ) (g : List ℕ) → IsSome (reply (exec (run t) (plan_prog (concat_plan h l v w)) u g))
   unfolding concat_plan
@@ -232,15 +232,15 @@ module _ (t : ℕ) (slices : (v o w u : ℕ) (g : List ℕ) → IsSome (reply (r
 
       by : (b : Option ℕ)
           → IsSome (reply (exec (run t) (first_prog (given b (λ n. cond (same_type (type_at g n) (ty.Bits w)) (plan.tries (plan.masked (record { type = ty.Bits w; base = n; mask = f.keep; result = ty.Bits w; op = bi.Or; literal = f.literal })) (plan.concat_rest h l v w)) (plan.does (concat_plan h l v w))) (plan.does (plan.constant (ty.Bits w) f.literal)))) u g))
-      by none = sure_some (plan.constant (ty.Bits w) f.literal) u g tt
-      by (some b) = choose b (same_type (type_at g b) (ty.Bits w))
+      by None = sure_some (plan.constant (ty.Bits w) f.literal) u g tt
+      by (Some b) = choose b (same_type (type_at g b) (ty.Bits w))
 
   bits_some : (g : List ℕ) (h l v w u : ℕ) → IsSome (reply (exec (run t) (first_prog (concat_field g h l v w)) u g))
   bits_some g h l v w u = by (fold_bitfield_concat g h l v w)
     where
       by : (f : Option Field) → IsSome (reply (exec (run t) (first_prog (given f (field_plan g h l v w) (plan.does (concat_plan h l v w)))) u g))
-      by none = concat-node h l v w u g
-      by (some f) = field-some g h l v w u f
+      by None = concat-node h l v w u g
+      by (Some f) = field-some g h l v w u f
 
   open_some : (g : List ℕ) (h l v w u : ℕ) → IsSome (reply (exec (run t) (first_prog (concat_open g h l v w)) u g))
   open_some g h l v w u = by (cut_of (operation_at g h)) (cut_of (operation_at g l))
@@ -251,9 +251,9 @@ module _ (t : ℕ) (slices : (v o w u : ℕ) (g : List ℕ) → IsSome (reply (r
       choose a b false = bits_some g h l v w u
 
       by : (a b : Option Cut) → IsSome (reply (exec (run t) (first_prog (given (adjacent a b v w) plan.does (concat_field g h l v w))) u g))
-      by none b = bits_some g h l v w u
-      by (some a) none = bits_some g h l v w u
-      by (some a) (some b) = choose a b (eqb a.value b.value && eqb a.offset (b.offset + v))
+      by None b = bits_some g h l v w u
+      by (Some a) None = bits_some g h l v w u
+      by (Some a) (Some b) = choose a b (eqb a.value b.value && eqb a.offset (b.offset + v))
 
   concat_first_lem : (h l v w u : ℕ) (g : List ℕ) → IsSome (reply (exec (run t) (first_prog (concat_first g h l v w)) u g))
   unfolding concat_first
@@ -263,9 +263,9 @@ module _ (t : ℕ) (slices : (v o w u : ℕ) (g : List ℕ) → IsSome (reply (r
           → IsSome (reply (exec (run t) (first_prog (cond x (plan.does (plan.slice l 0 w)) (cond y (plan.does (plan.slice h 0 w)) (given (joined_plan a b v w) plan.does (concat_open g h l v w))))) u g))
       by true y a b = sure_some (plan.slice l 0 w) u g tt
       by false true a b = sure_some (plan.slice h 0 w) u g tt
-      by false false none b = open_some g h l v w u
-      by false false (some a) none = open_some g h l v w u
-      by false false (some a) (some b) = constant-some (run t) (ty.Bits w) (joined a b v) u g
+      by false false None b = open_some g h l v w u
+      by false false (Some a) None = open_some g h l v w u
+      by false false (Some a) (Some b) = constant-some (run t) (ty.Bits w) (joined a b v) u g
 
 abbrev Slices : ℕ → Type 0
 Slices t = (v o w u : ℕ) (g : List ℕ) → IsSome (reply (run t (slice v o w) u g))

@@ -2,7 +2,7 @@
 -- Assumes nothing.
 use mathlib.Core.Path.{◌≡◌, refl, sym, ap, ◌∙◌, subst}
 use mathlib.Core.Bool.{Bool, true, false, not}
-use mathlib.Core.Option.{Option, none, some}
+use Rattle.std.specs.Prelude.{Option, None, Some}
 use mathlib.Core.Logic.Iff
 use mathlib.Core.Logic.{◌↔◌, ◌⊎◌}
 use Prim.Native.Nat.{ℕ, ◌+◌, ◌-◌, ◌*◌, ◌/◌, ◌%◌, ◌^◌, ◌<◌, ◌≤◌}
@@ -45,8 +45,8 @@ reduced-value ty.Integer v h = refl
 
 -- an integer as an answer in 128 bits
 signed-answer : (t : ScalarType) → vector_width t ≡ 128 → (o : Option ℤ) → mapped (reduced t) (mapped (residue 128) o) ≡ mapped (residue 128) o
-signed-answer t whole none = refl
-signed-answer t whole (some z) = ap some (reduced-value t (residue 128 z) (rw whole (residue-lt 128 z)))
+signed-answer t whole None = refl
+signed-answer t whole (Some z) = ap Some (reduced-value t (residue 128 z) (rw whole (residue-lt 128 z)))
 
 -- what f gives in 128 bits, for Bits and Integer
 reduced_word : (t : ScalarType) (f : ℕ → ℕ) → (t ≡ ty.Bool → ⊥) → (f 128 % 2 ^ vector_width t ≡ f (vector_width t)) → reduced t (f 128) ≡ f (vector_width t)
@@ -62,28 +62,28 @@ shift_width_lem ty.Integer not_bool = refl
 
 -- ---- unary
 
-pub not_agrees : (w a : ℕ) → 0 < w → w ≤ 128 → a < 2 ^ w → mapped (reduced (ty.Bits w)) (unary_value un.BitNot a) ≡ some (bvnot w a)
+pub not_agrees : (w a : ℕ) → 0 < w → w ≤ 128 → a < 2 ^ w → mapped (reduced (ty.Bits w)) (unary_value un.BitNot a) ≡ Some (bvnot w a)
 unfolding unary_value
-not_agrees w a p h l = ap some (over 128 h)
+not_agrees w a p h l = ap Some (over 128 h)
   where
     over : (v : ℕ) → w ≤ v → (2 ^ v - 1 - a) % 2 ^ w ≡ bvnot w a
     over v h = subst (λ (u : ℕ). (2 ^ u - 1 - a) % 2 ^ w ≡ bvnot w a) (sub-add_cancel h) (not_mod (v - w) w l)
 
 -- to Bits or Integer
 pub sign_extend_agrees : (w : ℕ) (t : ScalarType) (a : ℕ) → 0 < w → w ≤ vector_width t → vector_width t ≤ 128 → (t ≡ ty.Bool → ⊥) → a < 2 ^ w
-    → mapped (reduced t) (unary_value (un.SignExtend w) a) ≡ some (sign_extend w (vector_width t - w) a)
+    → mapped (reduced t) (unary_value (un.SignExtend w) a) ≡ Some (sign_extend w (vector_width t - w) a)
 unfolding unary_value
 sign_extend_agrees w t a p h g not_bool l =
     let z : ℤ = signed w a in
     rw (ne_eqb w 0 (omega arith), extended-field a w p (omega arith) l)
-    (ap some (reduced_word t (λ v. residue v z) not_bool (residue-narrow z 128 (vector_width t) g) ∙ sign_extended_lem w a p l (vector_width t) h))
+    (ap Some (reduced_word t (λ v. residue v z) not_bool (residue-narrow z 128 (vector_width t) g) ∙ sign_extended_lem w a p l (vector_width t) h))
 
 -- an integer of 128 bits as an answer, if it fits
-fitted-agrees : (z : ℤ) (v : ℕ) → v ≡ residue 128 z → (mapped (residue 128) (fitted z) ≡ some v) ↔ (fits z ≡ true)
+fitted-agrees : (z : ℤ) (v : ℕ) → v ≡ residue 128 z → (mapped (residue 128) (fitted z) ≡ Some v) ↔ (fits z ≡ true)
 fitted-agrees z v e =
     let g = given (residue 128) true (fits z) z v in (λ q. (g.0 q).1, λ q. g.1 (refl, q, sym e))
 
-pub negate_agrees : (a : ℕ) → a < 2 ^ 128 → (unary_value un.Negate a ≡ some (bvneg 128 a)) ↔ (a ≡ 2 ^ 127 → ⊥)
+pub negate_agrees : (a : ℕ) → a < 2 ^ 128 → (unary_value un.Negate a ≡ Some (bvneg 128 a)) ↔ (a ≡ 2 ^ 127 → ⊥)
 unfolding unary_value
 negate_agrees a l =
     let z : ℤ = neg_ℤ (signed 128 a) in
@@ -98,7 +98,7 @@ extract_of m i j s = mapped (extract i j) (provided (leb j i) (only (ltb i m) s)
 
 -- of an operand of width m
 pub slice-agrees : (m offset width v : ℕ) → 0 < width
-    → (some (slice_value offset width v) ≡ extract_of m (offset + width - 1) offset v) ↔ (offset + width ≤ m)
+    → (Some (slice_value offset width v) ≡ extract_of m (offset + width - 1) offset v) ↔ (offset + width ≤ m)
 slice-agrees m offset width v p =
     let i : ℕ = offset + width - 1 in
     let e : i - offset + 1 ≡ width = omega arith in
@@ -107,7 +107,7 @@ slice-agrees m offset width v p =
 
 -- past the operand's bits: the same of the operand with zeros in front
 pub slice_past : (m offset width v : ℕ) → 0 < width
-    → let k : ℕ = offset + width - m in some (slice_value offset width v) ≡ extract_of (m + k) (offset + width - 1) offset (zero_extend k v)
+    → let k : ℕ = offset + width - m in Some (slice_value offset width v) ≡ extract_of (m + k) (offset + width - 1) offset (zero_extend k v)
 slice_past m offset width v p = (slice-agrees (m + (offset + width - m)) offset width v p).1 (omega arith)
 
 -- of an operand of width m, to no more bits: the slice at 0
@@ -116,9 +116,9 @@ unfolding unary_value
 truncate_agrees m w a p = rw (div-one, zero-add) at (slice-agrees m 0 w a p)
 
 -- to no fewer bits
-pub zero_extend_agrees : (w t a : ℕ) → w ≤ t → a < 2 ^ w → unary_value (un.Truncate t) a ≡ some (zero_extend (t - w) a)
+pub zero_extend_agrees : (w t a : ℕ) → w ≤ t → a < 2 ^ w → unary_value (un.Truncate t) a ≡ Some (zero_extend (t - w) a)
 unfolding unary_value
-zero_extend_agrees w t a h l = ap some (mod-eq_of_lt (lt_of_lt_of_le l (pow_mono h)))
+zero_extend_agrees w t a h l = ap Some (mod-eq_of_lt (lt_of_lt_of_le l (pow_mono h)))
 
 pub concat-agrees : (n h l : ℕ) → concat_value n h l ≡ concat n h l
 concat-agrees n h l = refl
@@ -137,7 +137,7 @@ module _ (f : ℤ → ℤ → ℤ) (g : ℕ → ℕ → ℕ → ℕ) (hom : (w :
       ∙ sym (on_residues w (pos a) (pos b) a b (residue-pos w a l) (residue-pos w b m))
 
   integer_agrees : (a b : ℕ) → a < 2 ^ 128 → b < 2 ^ 128
-      → (mapped (reduced ty.Integer) (mapped (residue 128) (fitted (f (signed 128 a) (signed 128 b)))) ≡ some (g 128 a b))
+      → (mapped (reduced ty.Integer) (mapped (residue 128) (fitted (f (signed 128 a) (signed 128 b)))) ≡ Some (g 128 a b))
       ↔ (fits (f (signed 128 a) (signed 128 b)) ≡ true)
   integer_agrees a b l m =
       let z : ℤ = f (signed 128 a) (signed 128 b) in
@@ -150,109 +150,109 @@ sub_residues w x y = add-mod-mod (residue w x) (2 ^ w - residue w y) (2 ^ w) ∙
 -- ---- at a type
 
 module _ (t : ScalarType) (a b : ℕ) (l : a < 2 ^ vector_width t) (m : b < 2 ^ vector_width t) where
-  pub and-agrees : binary_value bi.And t a b ≡ some (bvand a b)
+  pub and-agrees : binary_value bi.And t a b ≡ Some (bvand a b)
   unfolding binary_value
-  and-agrees = ap some (reduced-value t (bvand a b) (and_lt (vector_width t) a b l m))
+  and-agrees = ap Some (reduced-value t (bvand a b) (and_lt (vector_width t) a b l m))
 
-  pub or-agrees : binary_value bi.Or t a b ≡ some (bvor a b)
+  pub or-agrees : binary_value bi.Or t a b ≡ Some (bvor a b)
   unfolding binary_value
-  or-agrees = ap some (reduced-value t (bvor a b) (or_lt (vector_width t) a b l m))
+  or-agrees = ap Some (reduced-value t (bvor a b) (or_lt (vector_width t) a b l m))
 
-  pub xor-agrees : binary_value bi.Xor t a b ≡ some (bvxor a b)
+  pub xor-agrees : binary_value bi.Xor t a b ≡ Some (bvxor a b)
   unfolding binary_value
-  xor-agrees = ap some (reduced-value t (bvxor a b) (xor_lt (vector_width t) a b l m))
+  xor-agrees = ap Some (reduced-value t (bvxor a b) (xor_lt (vector_width t) a b l m))
 
-  pub udiv_agrees : (binary_value bi.DivideUnsigned t a b ≡ some (bvudiv (vector_width t) a b)) ↔ (b ≡ 0 → ⊥)
+  pub udiv_agrees : (binary_value bi.DivideUnsigned t a b ≡ Some (bvudiv (vector_width t) a b)) ↔ (b ≡ 0 → ⊥)
   unfolding binary_value
   udiv_agrees = divided-some t b (a / b) (reduced-value t (a / b) (lt_of_le_of_lt (div-le_self a b) l)) (2 ^ vector_width t - 1)
 
-  pub urem_agrees : (binary_value bi.RemainderUnsigned t a b ≡ some (bvurem a b)) ↔ (b ≡ 0 → ⊥)
+  pub urem_agrees : (binary_value bi.RemainderUnsigned t a b ≡ Some (bvurem a b)) ↔ (b ≡ 0 → ⊥)
   unfolding binary_value
   urem_agrees = divided-some t b (a % b) (reduced-value t (a % b) (lt_of_le_of_lt (mod-le a b) l)) a
 
 -- shifts, for every amount b; SMT-LIB's take one of the same width, below 2 ^ w
 module _ (t : ScalarType) (not_bool : t ≡ ty.Bool → ⊥) (some-width : 0 < vector_width t) (at_most : vector_width t ≤ 128)
     (a b : ℕ) (l : a < 2 ^ vector_width t) where
-  pub shl-agrees : binary_value bi.ShiftLeft t a b ≡ some (bvshl (vector_width t) a b)
+  pub shl-agrees : binary_value bi.ShiftLeft t a b ≡ Some (bvshl (vector_width t) a b)
   unfolding binary_value
   shl-agrees =
-      ap some
+      ap Some
       (ap (reduced t) (shift_left a b) ∙ reduced_word t (λ v. bvshl v a b) not_bool (narrow (a * 2 ^ b) 128 (vector_width t) at_most))
 
-  pub lshr_agrees : binary_value bi.ShiftRight t a b ≡ some (bvlshr a b)
+  pub lshr_agrees : binary_value bi.ShiftRight t a b ≡ Some (bvlshr a b)
   unfolding binary_value
   lshr_agrees =
-      ap some
+      ap Some
       (ap (reduced t) (shift_right a b (lt_of_lt_of_le l (pow_mono at_most))) ∙ reduced-value t (bvlshr a b) (lt_of_le_of_lt (shr_le a b) l))
 
-  pub ashr_agrees : binary_value bi.ArithmeticShiftRight t a b ≡ some (bvashr (vector_width t) a b)
+  pub ashr_agrees : binary_value bi.ArithmeticShiftRight t a b ≡ Some (bvashr (vector_width t) a b)
   unfolding binary_value
   ashr_agrees =
       let w : ℕ = vector_width t in
       let z : ℤ = shr_z (signed w a) (2 ^ b) in
-      ap some
+      ap Some
       (ap (reduced t) (ap (λ (v : ℕ). arithmetic_shift v a b) (shift_width_lem t not_bool) ∙ arithmetic w a some-width l at_most b)
       ∙ reduced_word t (λ v. residue v z) not_bool (residue-narrow z 128 w at_most) ∙ shift_sign w a some-width l b)
 
 -- ---- at Bits(w)
 
 module _ (w a b : ℕ) (some-width : 0 < w) (at_most : w ≤ 128) (l : a < 2 ^ w) (m : b < 2 ^ w) where
-  pub add-agrees : binary_value bi.Add (ty.Bits w) a b ≡ some (bvadd w a b)
+  pub add-agrees : binary_value bi.Add (ty.Bits w) a b ≡ Some (bvadd w a b)
   unfolding binary_value
-  add-agrees = ap some (bits_agree ◌+ℤ◌ bvadd residue-add w a b 128 at_most l m)
+  add-agrees = ap Some (bits_agree ◌+ℤ◌ bvadd residue-add w a b 128 at_most l m)
 
-  pub sub-agrees : binary_value bi.Sub (ty.Bits w) a b ≡ some (bvsub w a b)
+  pub sub-agrees : binary_value bi.Sub (ty.Bits w) a b ≡ Some (bvsub w a b)
   unfolding binary_value
   sub-agrees =
-      ap some
+      ap Some
       (ap (λ (n : ℕ). n % 2 ^ w) (sym (add-mod-mod a (2 ^ 128 - b) (2 ^ 128))) ∙ bits_agree ◌-ℤ◌ bvsub sub_residues w a b 128 at_most l m)
 
-  pub mul-agrees : binary_value bi.Mul (ty.Bits w) a b ≡ some (bvmul w a b)
+  pub mul-agrees : binary_value bi.Mul (ty.Bits w) a b ≡ Some (bvmul w a b)
   unfolding binary_value
-  mul-agrees = ap some (bits_agree ◌*ℤ◌ bvmul residue-mul w a b 128 at_most l m)
+  mul-agrees = ap Some (bits_agree ◌*ℤ◌ bvmul residue-mul w a b 128 at_most l m)
 
   -- below width 128 the evaluator reads no field as an integer below 0
-  pub slt_agrees : (binary_value bi.LessSigned ty.Bool a b ≡ some (from_bool (bvslt w a b))) ↔ ((w ≡ 128) ⊎ (msb w a ≡ msb w b))
+  pub slt_agrees : (binary_value bi.LessSigned ty.Bool a b ≡ Some (from_bool (bvslt w a b))) ↔ ((w ≡ 128) ⊎ (msb w a ≡ msb w b))
   unfolding binary_value
   slt_agrees = Iff.trans (test_answer (lt_z (signed 128 a) (signed 128 b)) (bvslt w a b)) (less_agrees w a b some-width at_most l m)
 
-  pub sle_agrees : (binary_value bi.LessEqualSigned ty.Bool a b ≡ some (from_bool (bvsle w a b))) ↔ ((w ≡ 128) ⊎ (msb w a ≡ msb w b))
+  pub sle_agrees : (binary_value bi.LessEqualSigned ty.Bool a b ≡ Some (from_bool (bvsle w a b))) ↔ ((w ≡ 128) ⊎ (msb w a ≡ msb w b))
   unfolding binary_value
   sle_agrees = Iff.trans (test_answer (le_z (signed 128 a) (signed 128 b)) (bvsle w a b)) (at_most-agrees w a b some-width at_most l m)
 
-pub ult_agrees : (a b : ℕ) → binary_value bi.LessUnsigned ty.Bool a b ≡ some (from_bool (bvult a b))
+pub ult_agrees : (a b : ℕ) → binary_value bi.LessUnsigned ty.Bool a b ≡ Some (from_bool (bvult a b))
 unfolding binary_value
 ult_agrees a b = refl
 
-pub ule_agrees : (a b : ℕ) → binary_value bi.LessEqualUnsigned ty.Bool a b ≡ some (from_bool (bvule a b))
+pub ule_agrees : (a b : ℕ) → binary_value bi.LessEqualUnsigned ty.Bool a b ≡ Some (from_bool (bvule a b))
 unfolding binary_value
 ule_agrees a b = refl
 
 -- ---- in 128 bits
 
 module _ (a b : ℕ) (l : a < 2 ^ 128) (m : b < 2 ^ 128) where
-  pub integer_add-agrees : (binary_value bi.Add ty.Integer a b ≡ some (bvadd 128 a b)) ↔ (fits (signed 128 a +ℤ signed 128 b) ≡ true)
+  pub integer_add-agrees : (binary_value bi.Add ty.Integer a b ≡ Some (bvadd 128 a b)) ↔ (fits (signed 128 a +ℤ signed 128 b) ≡ true)
   unfolding binary_value
   integer_add-agrees = integer_agrees ◌+ℤ◌ bvadd residue-add a b l m
 
-  pub integer_sub-agrees : (binary_value bi.Sub ty.Integer a b ≡ some (bvsub 128 a b)) ↔ (fits (signed 128 a -ℤ signed 128 b) ≡ true)
+  pub integer_sub-agrees : (binary_value bi.Sub ty.Integer a b ≡ Some (bvsub 128 a b)) ↔ (fits (signed 128 a -ℤ signed 128 b) ≡ true)
   unfolding binary_value
   integer_sub-agrees = integer_agrees ◌-ℤ◌ bvsub sub_residues a b l m
 
-  pub integer_mul-agrees : (binary_value bi.Mul ty.Integer a b ≡ some (bvmul 128 a b)) ↔ (fits (signed 128 a *ℤ signed 128 b) ≡ true)
+  pub integer_mul-agrees : (binary_value bi.Mul ty.Integer a b ≡ Some (bvmul 128 a b)) ↔ (fits (signed 128 a *ℤ signed 128 b) ≡ true)
   unfolding binary_value
   integer_mul-agrees = integer_agrees ◌*ℤ◌ bvmul residue-mul a b l m
 
   -- the divisions at Bits(128) and Integer: not by 0, and not -(2 ^ 127) by -1
   module _ (t : ScalarType) (whole : vector_width t ≡ 128) where
-    pub sdiv_agrees_128 : (binary_value bi.DivideSigned t a b ≡ some (bvsdiv 128 a b))
+    pub sdiv_agrees_128 : (binary_value bi.DivideSigned t a b ≡ Some (bvsdiv 128 a b))
         ↔ ((b ≡ 0 → ⊥) × ((a ≡ 2 ^ 127) × (b ≡ 2 ^ 128 - 1) → ⊥))
     unfolding binary_value quotient
     sdiv_agrees_128 =
         rw (signed-answer t whole (quotient (signed 128 a) (signed 128 b)))
         (at_128 a b l m (quot_z (signed 128 a) (signed 128 b)) (bvsdiv 128 a b) (quotient-value 128 a b (omega arith) l m))
 
-    pub srem_agrees_128 : (binary_value bi.RemainderSigned t a b ≡ some (bvsrem 128 a b))
+    pub srem_agrees_128 : (binary_value bi.RemainderSigned t a b ≡ Some (bvsrem 128 a b))
         ↔ ((b ≡ 0 → ⊥) × ((a ≡ 2 ^ 127) × (b ≡ 2 ^ 128 - 1) → ⊥))
     unfolding binary_value remainder
     srem_agrees_128 =
@@ -261,16 +261,16 @@ module _ (a b : ℕ) (l : a < 2 ^ 128) (m : b < 2 ^ 128) where
 
 -- ---- `=`, `distinct` and `not` of SMT-LIB's core theory
 
-pub equal_agrees : (a b : ℕ) → binary_value bi.Equal ty.Bool a b ≡ some (from_bool (eqb a b))
+pub equal_agrees : (a b : ℕ) → binary_value bi.Equal ty.Bool a b ≡ Some (from_bool (eqb a b))
 unfolding binary_value
 equal_agrees a b = refl
 
-pub not_equal_agrees : (a b : ℕ) → binary_value bi.NotEqual ty.Bool a b ≡ some (from_bool (not (eqb a b)))
+pub not_equal_agrees : (a b : ℕ) → binary_value bi.NotEqual ty.Bool a b ≡ Some (from_bool (not (eqb a b)))
 unfolding binary_value
 not_equal_agrees a b = refl
 
 -- a Bool is 1 or 0
-pub bool_not-agrees : (t : Bool) → unary_value un.BoolNot (from_bool t) ≡ some (from_bool (not t))
+pub bool_not-agrees : (t : Bool) → unary_value un.BoolNot (from_bool t) ≡ Some (from_bool (not t))
 unfolding unary_value
 bool_not-agrees true = refl
 bool_not-agrees false = refl
@@ -300,7 +300,7 @@ module _ (w a b : ℕ) (some-width : 0 < w) (under : w < 128) (l : a < 2 ^ w) (m
       → (2 ^ (w - 1) ≤ a → b < 2 ^ (w - 1) → (b ≡ 0 → ⊥) → (n ≡ residue w (d (negative w a) (pos b))) ↔ F)
       → (a < 2 ^ (w - 1) → 2 ^ (w - 1) ≤ b → (n ≡ residue w (d (pos a) (negative w b))) ↔ (a + b < 2 ^ w))
       → (2 ^ (w - 1) ≤ a → 2 ^ (w - 1) ≤ b → (n ≡ residue w (d (negative w a) (negative w b))) ↔ (a ≡ b))
-      → (mapped (reduced (ty.Bits w)) (only (ltb 0 b) n) ≡ some v) ↔ AgreeDivision F (msb w a) (msb w b) w a b
+      → (mapped (reduced (ty.Bits w)) (only (ltb 0 b) n) ≡ Some v) ↔ AgreeDivision F (msb w a) (msb w b) w a b
   below_128 F n v d h e neither some-F first second both =
       let q = divided (ty.Bits w) b n (mod-eq_of_lt h) v in
       let some-set : 2 ^ (w - 1) ≤ b → b ≡ 0 → ⊥ = λ g z. omega (arith, pow_pos (w - 1)) in
@@ -311,7 +311,7 @@ module _ (w a b : ℕ) (some-width : 0 < w) (under : w < 128) (l : a < 2 ^ w) (m
       (λ f g. (λ o. some-set g, λ z. both f g)) in
       (λ o. let c = q.0 o in (k.1 c.0).0 (c.1 ∙ e c.0), λ c. let z = k.0 c in q.1 (z, (k.1 z).1 c ∙ sym (e z)))
 
-  pub sdiv_agrees : (binary_value bi.DivideSigned (ty.Bits w) a b ≡ some (bvsdiv w a b)) ↔ AgreeQuotient (msb w a) (msb w b) w a b
+  pub sdiv_agrees : (binary_value bi.DivideSigned (ty.Bits w) a b ≡ Some (bvsdiv w a b)) ↔ AgreeQuotient (msb w a) (msb w b) w a b
   sdiv_agrees =
       let h : a / b < 2 ^ w = lt_of_le_of_lt (div-le_self a b) l in
       rw (unsigned_quotient w a b under l m)
@@ -319,7 +319,7 @@ module _ (w a b : ℕ) (some-width : 0 < w) (under : w < 128) (l : a < 2 ^ w) (m
       below_128 (b ≡ 1) (a / b) (bvsdiv w a b) quot_z h (quotient-value w a b some-width l m) (residue-pos w (a / b) h) (omega arith)
       (quotient_first w a b some-width l m) (quotient_second w a b some-width l m) (quotient_both w a b some-width l m))
 
-  pub srem_agrees : (binary_value bi.RemainderSigned (ty.Bits w) a b ≡ some (bvsrem w a b)) ↔ AgreeRemainder (msb w a) (msb w b) w a b
+  pub srem_agrees : (binary_value bi.RemainderSigned (ty.Bits w) a b ≡ Some (bvsrem w a b)) ↔ AgreeRemainder (msb w a) (msb w b) w a b
   srem_agrees =
       let h : a % b < 2 ^ w = lt_of_le_of_lt (mod-le a b) l in
       rw (unsigned_remainder w a b under l m)

@@ -3,7 +3,7 @@
 use mathlib.Core.Path.{◌≡◌, refl, ap, ap₂}
 use mathlib.Core.Bool.{Bool, true, false, ◌&&◌}
 use mathlib.Core.List.{List, [], ◌∷◌, ◌++◌}
-use mathlib.Core.Option.{Option, none, some}
+use Rattle.std.specs.Prelude.{Option, None, Some}
 use Prim.Native.Nat.{ℕ, zero, suc, ◌-◌, ◌^◌, ◌<◌}
 use native.Mathlib.Nat.{le_of_suc-le-suc, not-suc-le-zero}
 use lib.Count.{count_leading_zeros, count_trailing_zeros}
@@ -23,21 +23,21 @@ use Rattle.evaluate.specs.SmtLib.{bvslt}
 
 -- a pattern as a number
 abbrev number : Option ℕ → List ℤ
-number none = []
-number (some n) = pos n ∷ []
+number None = []
+number (Some n) = pos n ∷ []
 
 -- a pattern as an Integer
 abbrev integer : Option ℕ → List ℤ
-integer none = []
-integer (some n) = signed 128 n ∷ []
+integer None = []
+integer (Some n) = signed 128 n ∷ []
 
 -- the pattern of an Integer
 abbrev pattern : ℤ → ℕ
 pattern z = residue 128 z
 
 abbrev ends : Option Interval → List ℤ
-ends none = []
-ends (some a) = a.low ∷ a.high ∷ []
+ends None = []
+ends (Some a) = a.low ∷ a.high ∷ []
 
 abbrev interval : ℤ → ℤ → Interval
 interval l h = record { low = l; high = h }
@@ -92,13 +92,13 @@ bench =
     ∷ (integer (unary_value un.Negate (pattern (negsuc (2 ^ 127 - 1)))), [])
     ∷ (number (binary_value bi.ShiftLeft (ty.Bits 8) 129 1), pos 2 ∷ [])
     ∷ (number (binary_value bi.ArithmeticShiftRight (ty.Bits 8) 128 200), pos 255 ∷ [])
-    ∷ (number (binary_value bi.LessSigned ty.Bool 128 1) ++ number (some (from_bool (bvslt 8 128 1))), pos 0 ∷ pos 1 ∷ [])
+    ∷ (number (binary_value bi.LessSigned ty.Bool 128 1) ++ number (Some (from_bool (bvslt 8 128 1))), pos 0 ∷ pos 1 ∷ [])
     ∷ (integer (binary_value bi.DivideSigned ty.Integer (pattern (negsuc 6)) 2), negsuc 2 ∷ [])
     ∷ (integer (binary_value bi.RemainderSigned ty.Integer (pattern (negsuc 6)) 3), negsuc 0 ∷ [])
     ∷ (number (unary_value (un.LeadingZeros 8) 16), pos 3 ∷ [])
     ∷ (number (unary_value (un.TrailingZeros 8) 0), pos 8 ∷ [])
     ∷ (ends (mul_interval (interval (negsuc 2) (pos 2)) (interval (negsuc 3) (pos 5))), negsuc 14 ∷ pos 12 ∷ [])
-    ∷ (number (some (slice_value 4 8 43981)), pos 188 ∷ [])
+    ∷ (number (Some (slice_value 4 8 43981)), pos 188 ∷ [])
     ∷ []
 
 pub bench_holds : (k : ℕ) → k < length bench → (row bench k).0 ≡ (row bench k).1

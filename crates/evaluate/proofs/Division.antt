@@ -2,7 +2,7 @@
 -- Assumes nothing.
 use mathlib.Core.Path.{◌≡◌, refl, sym, ap, ◌∙◌}
 use mathlib.Core.Bool.{Bool, true, false, cond}
-use mathlib.Core.Option.{some}
+use Rattle.std.specs.Prelude.{Some}
 use mathlib.Core.Logic.{◌↔◌, ◌⊎◌, inl, inr, ⊎_elim}
 use Prim.Native.Nat.{ℕ, zero, suc, ◌+◌, ◌-◌, ◌/◌, ◌%◌, ◌^◌, ◌<◌, ◌≤◌}
 use native.Mathlib.Nat.{div-le_self, div-lt_self, div-one, div_self, div-eq_of_lt, le-div_iff_mul-le, mod-le, mod-lt, mod_self, mod-eq_of_lt, eq-or-lt_of_le, lt_of_le_of_lt, lt_of_lt_of_le, le_trans, le_of_eq, lt_of_not-le}
@@ -106,7 +106,7 @@ quotient_fits w a b p l m =
 -- z, the quotient or the remainder, as an answer, against v
 module _ (a b : ℕ) (l : a < 2 ^ 128) (m : b < 2 ^ 128) where
   pub at_128 : (z : ℤ) (v : ℕ) → ((b ≡ 0 → ⊥) → v ≡ residue 128 z)
-      → (mapped (residue 128) (provided (ltb 0 (nat_abs (signed 128 b))) (only (fits (quot_z (signed 128 a) (signed 128 b))) z)) ≡ some v)
+      → (mapped (residue 128) (provided (ltb 0 (nat_abs (signed 128 b))) (only (fits (quot_z (signed 128 a) (signed 128 b))) z)) ≡ Some v)
       ↔ ((b ≡ 0 → ⊥) × ((a ≡ 2 ^ 127) × (b ≡ 2 ^ 128 - 1) → ⊥))
   at_128 z v e =
       let q : ℤ = quot_z (signed 128 a) (signed 128 b) in
@@ -122,7 +122,7 @@ module _ (a b : ℕ) (l : a < 2 ^ 128) (m : b < 2 ^ 128) where
 
 narrowed : (w n : ℕ) (t : Bool) → w ≤ 128 → mapped (reduced (ty.Bits w)) (mapped (residue 128) (only t (pos n))) ≡ mapped (reduced (ty.Bits w)) (only t n)
 unfolding residue
-narrowed w n true h = ap some (narrow n 128 w h)
+narrowed w n true h = ap Some (narrow n 128 w h)
 narrowed w n false h = refl
 
 module _ (w a b : ℕ) (under : w < 128) (l : a < 2 ^ w) (m : b < 2 ^ w) where

@@ -1,7 +1,7 @@
 -- The signed order of fields of w bits: in w bits SMT-LIB's, in more bits the unsigned one. Assumes nothing.
 use mathlib.Core.Path.{◌≡◌, refl, sym, ap, ◌∙◌, subst}
 use mathlib.Core.Bool.{Bool, true, false, not, not-not, true≢false, false≢true}
-use mathlib.Core.Option.{some}
+use Rattle.std.specs.Prelude.{Some}
 use mathlib.Core.Logic.{◌↔◌, ◌⊎◌, inl, inr, ⊎_elim, ⊎_map}
 use Prim.Native.Nat.{ℕ, suc, ◌-◌, ◌^◌, ◌<◌, ◌≤◌}
 use native.Mathlib.Nat.{eq-or-lt_of_le}
@@ -18,8 +18,8 @@ use Rattle.evaluate.specs.SmtLib.{msb, ordered, bvslt, bvsle}
 use Rattle.evaluate.proofs.Fields.{by_tops, signed-narrow}
 
 -- a test as an answer
-pub test_answer : (x y : Bool) → (some (from_bool x) ≡ some (from_bool y)) ↔ (x ≡ y)
-test_answer x y = (λ e. let q : from_bool x ≡ from_bool y = cc in sym (back x) ∙ ap (λ (n : ℕ). eqb n 1) q ∙ back y, ap (λ (t : Bool). some (from_bool t)))
+pub test_answer : (x y : Bool) → (Some (from_bool x) ≡ Some (from_bool y)) ↔ (x ≡ y)
+test_answer x y = (λ e. let q : from_bool x ≡ from_bool y = cc in sym (back x) ∙ ap (λ (n : ℕ). eqb n 1) q ∙ back y, ap (λ (t : Bool). Some (from_bool t)))
   where
     back : (t : Bool) → eqb (from_bool t) 1 ≡ t
     back true = refl

@@ -1,6 +1,6 @@
 -- The evaluators as calls: question 2 first, then a value or None.
 use Rattle.std.specs.Prelude.{cond, ℕ, leb}
-use Rattle.std.proofs.Math.Option.{Option, none, some}
+use Rattle.std.specs.Prelude.{Option, None, Some}
 use Rattle.word.specs.Value.{val}
 use Rattle.answer.specs.declared.Refusal.{Refusal}
 use Rattle.answer.specs.declared.Refusal.TheVariants as refusal
@@ -26,8 +26,8 @@ outcome_of (evaluated.Refused r) = refused r
 
 -- an optional value as an outcome
 abbrev pub answered : Option ℕ → Outcome
-answered none = nothing
-answered (some n) = value n
+answered None = nothing
+answered (Some n) = value n
 
 -- question 2: is the width at most the widest?
 abbrev pub asked : ℕ → Outcome → Outcome

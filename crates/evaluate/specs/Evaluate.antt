@@ -1,6 +1,6 @@
 -- The evaluators: what each operator gives on 128-bit patterns, as native.rs composes it from Rust's operations.
 use Rattle.std.specs.Prelude.{Bool, true, false, cond, not, ℕ, min, ◌+◌, ◌-◌, ◌*◌, ◌/◌, ◌%◌, ◌^◌, eqb, ltb, leb, ℤ}
-use Rattle.std.proofs.Math.Option.{Option, some}
+use Rattle.std.specs.Prelude.{Option, Some}
 use Rattle.std.specs.Int.Bits.{bit_and, bit_or, bit_xor}
 use Rattle.std.specs.Int.Signed.{lt_z, le_z}
 use Rattle.word.specs.Option.{mapped, or_zero, from_bool}
@@ -33,13 +33,13 @@ trailing_in w v = min (u128.trailing_zeros (v % 2 ^ w)) w
 
 -- what a unary operator gives; `v % 2 ^ w` is Rust's `v & mask(w)`
 unfoldable pub unary_value : Unary → ℕ → Option ℕ
-unary_value un.BoolNot v = some (from_bool (eqb v 0))
-unary_value un.BitNot v = some (u128.not v)
+unary_value un.BoolNot v = Some (from_bool (eqb v 0))
+unary_value un.BitNot v = Some (u128.not v)
 unary_value un.Negate v = mapped i128.as_u128 (i128.checked_neg (u128.as_i128 v))
-unary_value (un.Truncate w) v = some (v % 2 ^ w)
-unary_value (un.SignExtend w) v = some (sign_extended w v)
-unary_value (un.LeadingZeros w) v = some (leading_in w v)
-unary_value (un.TrailingZeros w) v = some (trailing_in w v)
+unary_value (un.Truncate w) v = Some (v % 2 ^ w)
+unary_value (un.SignExtend w) v = Some (sign_extended w v)
+unary_value (un.LeadingZeros w) v = Some (leading_in w v)
+unary_value (un.TrailingZeros w) v = Some (trailing_in w v)
 
 -- ---- binary
 
@@ -83,21 +83,21 @@ arithmetic_shift w a b = cond (eqb w 0) 0 (i128.as_u128 (i128.shr (extended w a)
 
 -- what a binary operator gives before it is reduced to its type
 abbrev pub unreduced : Binary → ScalarType → ℕ → ℕ → Option ℕ
-unreduced bi.Add t a b = by_type t (signedly i128.checked_add a b) (some (u128.wrapping_add a b))
-unreduced bi.Sub t a b = by_type t (signedly i128.checked_sub a b) (some (u128.wrapping_sub a b))
-unreduced bi.Mul t a b = by_type t (signedly i128.checked_mul a b) (some (u128.wrapping_mul a b))
-unreduced bi.And t a b = some (bit_and a b)
-unreduced bi.Or t a b = some (bit_or a b)
-unreduced bi.Xor t a b = some (bit_xor a b)
-unreduced bi.ShiftLeft t a b = some (shifted_left a b)
-unreduced bi.ShiftRight t a b = some (shifted_right a b)
-unreduced bi.ArithmeticShiftRight t a b = some (arithmetic_shift (shift_width t) a b)
-unreduced bi.Equal t a b = some (from_bool (eqb a b))
-unreduced bi.NotEqual t a b = some (from_bool (not (eqb a b)))
-unreduced bi.LessSigned t a b = some (from_bool (lt_z (u128.as_i128 a) (u128.as_i128 b)))
-unreduced bi.LessUnsigned t a b = some (from_bool (ltb a b))
-unreduced bi.LessEqualSigned t a b = some (from_bool (le_z (u128.as_i128 a) (u128.as_i128 b)))
-unreduced bi.LessEqualUnsigned t a b = some (from_bool (leb a b))
+unreduced bi.Add t a b = by_type t (signedly i128.checked_add a b) (Some (u128.wrapping_add a b))
+unreduced bi.Sub t a b = by_type t (signedly i128.checked_sub a b) (Some (u128.wrapping_sub a b))
+unreduced bi.Mul t a b = by_type t (signedly i128.checked_mul a b) (Some (u128.wrapping_mul a b))
+unreduced bi.And t a b = Some (bit_and a b)
+unreduced bi.Or t a b = Some (bit_or a b)
+unreduced bi.Xor t a b = Some (bit_xor a b)
+unreduced bi.ShiftLeft t a b = Some (shifted_left a b)
+unreduced bi.ShiftRight t a b = Some (shifted_right a b)
+unreduced bi.ArithmeticShiftRight t a b = Some (arithmetic_shift (shift_width t) a b)
+unreduced bi.Equal t a b = Some (from_bool (eqb a b))
+unreduced bi.NotEqual t a b = Some (from_bool (not (eqb a b)))
+unreduced bi.LessSigned t a b = Some (from_bool (lt_z (u128.as_i128 a) (u128.as_i128 b)))
+unreduced bi.LessUnsigned t a b = Some (from_bool (ltb a b))
+unreduced bi.LessEqualSigned t a b = Some (from_bool (le_z (u128.as_i128 a) (u128.as_i128 b)))
+unreduced bi.LessEqualUnsigned t a b = Some (from_bool (leb a b))
 unreduced bi.DivideSigned t a b = signedly i128.checked_div a b
 unreduced bi.RemainderSigned t a b = signedly i128.checked_rem a b
 unreduced bi.DivideUnsigned t a b = u128.checked_div a b

@@ -1,5 +1,5 @@
 -- Rust's operations of i128, as the standard library documents them. An i128 is an integer from -(2 ^ 127) to 2 ^ 127 - 1.
-use Rattle.std.proofs.Math.Option.{Option}
+use Rattle.std.specs.Prelude.{Option}
 use Rattle.std.specs.Prelude.{ℕ, ◌^◌, ℤ, neg_ℤ, ◌+ℤ◌, ◌-ℤ◌, ◌*ℤ◌}
 use Rattle.std.specs.Int.Signed.{shr_z}
 use Rattle.word.specs.Value.{fitted, residue, quotient, remainder}

@@ -8,7 +8,7 @@ use crate::code::WIDEST;
 use crate::pattern::{bits_above, extended, from_bool, low_bits, pattern_of};
 use crate::{Evaluated, Unary};
 use answer::Refusal;
-use word::{MaybeWord, Word};
+use word::Word;
 
 fn sign_extend(value: Word, width: u16) -> Word
     ensures { val result ≡ sign_extended width (val value) }
@@ -44,17 +44,17 @@ fn trailing_zeros(value: Word, width: u16) -> Word
 }
 
 // What the operator gives, with any parameter.
-pub fn unary_value(operation: Unary, value: Word) -> MaybeWord
+pub fn unary_value(operation: Unary, value: Word) -> Option<Word>
     ensures { number_of result ≡ unary_value operation (val value) }
 {
     match operation {
-        Unary::BoolNot => MaybeWord::Some(from_bool(value.eq(Word { lo: 0, hi: 0 }))),
-        Unary::BitNot => MaybeWord::Some(value.not()),
+        Unary::BoolNot => Some(from_bool(value.eq(Word { lo: 0, hi: 0 }))),
+        Unary::BitNot => Some(value.not()),
         Unary::Negate => pattern_of(value.as_signed().checked_neg()),
-        Unary::Truncate(width) => MaybeWord::Some(low_bits(value, width)),
-        Unary::SignExtend(width) => MaybeWord::Some(sign_extend(value, width)),
-        Unary::LeadingZeros(width) => MaybeWord::Some(leading_zeros(value, width)),
-        Unary::TrailingZeros(width) => MaybeWord::Some(trailing_zeros(value, width)),
+        Unary::Truncate(width) => Some(low_bits(value, width)),
+        Unary::SignExtend(width) => Some(sign_extend(value, width)),
+        Unary::LeadingZeros(width) => Some(leading_zeros(value, width)),
+        Unary::TrailingZeros(width) => Some(trailing_zeros(value, width)),
     }
 }
 
@@ -66,7 +66,7 @@ pub fn evaluate_unary(operation: Unary, value: Word) -> Evaluated
     }
     let answer = unary_value(operation, value);
     match answer {
-        MaybeWord::Some(result) => Evaluated::Value(result),
-        MaybeWord::None => Evaluated::None,
+        Some(result) => Evaluated::Value(result),
+        None => Evaluated::None,
     }
 }

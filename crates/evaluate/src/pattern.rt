@@ -7,7 +7,7 @@ ghost use Rattle.evaluate.specs.I128 as i128;
 
 use range::ScalarType;
 use range::typed::mask;
-use word::{MaybeSigned, MaybeWord, Signed, Word};
+use word::{Signed, Word};
 
 // Rust's u128::from of a bool.
 pub fn from_bool(truth: bool) -> Word
@@ -21,12 +21,12 @@ pub fn from_bool(truth: bool) -> Word
 }
 
 // The pattern of a signed answer.
-pub fn pattern_of(answer: MaybeSigned) -> MaybeWord
+pub fn pattern_of(answer: Option<Signed>) -> Option<Word>
     ensures { number_of result ≡ mapped i128.as_u128 (value_of answer) }
 {
     match answer {
-        MaybeSigned::Some(value) => MaybeWord::Some(value.as_word()),
-        MaybeSigned::None => MaybeWord::None,
+        Some(value) => Some(value.as_word()),
+        None => None,
     }
 }
 

@@ -13,7 +13,7 @@ use crate::pattern::{extended, from_bool, pattern_of, reduced, to_u32};
 use crate::{Binary, Evaluated, type_width};
 use answer::Refusal;
 use range::ScalarType;
-use word::{MaybeWord, Word};
+use word::Word;
 
 // Is an operation on values of this type the signed one, which may have no answer?
 fn is_integer(ty: ScalarType) -> bool
@@ -26,42 +26,42 @@ fn is_integer(ty: ScalarType) -> bool
     }
 }
 
-fn add(ty: ScalarType, a: Word, b: Word) -> MaybeWord
+fn add(ty: ScalarType, a: Word, b: Word) -> Option<Word>
     ensures { number_of result ≡ by_type ty (signedly i128.checked_add (val a) (val b)) (some (u128.wrapping_add (val a) (val b))) }
 {
     if is_integer(ty) {
         pattern_of(a.as_signed().checked_add(b.as_signed()))
     } else {
-        MaybeWord::Some(a.wrapping_add(b))
+        Some(a.wrapping_add(b))
     }
 }
 
-fn sub(ty: ScalarType, a: Word, b: Word) -> MaybeWord
+fn sub(ty: ScalarType, a: Word, b: Word) -> Option<Word>
     ensures { number_of result ≡ by_type ty (signedly i128.checked_sub (val a) (val b)) (some (u128.wrapping_sub (val a) (val b))) }
 {
     if is_integer(ty) {
         pattern_of(a.as_signed().checked_sub(b.as_signed()))
     } else {
-        MaybeWord::Some(a.wrapping_sub(b))
+        Some(a.wrapping_sub(b))
     }
 }
 
-fn mul(ty: ScalarType, a: Word, b: Word) -> MaybeWord
+fn mul(ty: ScalarType, a: Word, b: Word) -> Option<Word>
     ensures { number_of result ≡ by_type ty (signedly i128.checked_mul (val a) (val b)) (some (u128.wrapping_mul (val a) (val b))) }
 {
     if is_integer(ty) {
         pattern_of(a.as_signed().checked_mul(b.as_signed()))
     } else {
-        MaybeWord::Some(a.wrapping_mul(b))
+        Some(a.wrapping_mul(b))
     }
 }
 
-fn or_zero(answer: MaybeWord) -> Word
+fn or_zero(answer: Option<Word>) -> Word
     ensures { val result ≡ or_zero (number_of answer) }
 {
     match answer {
-        MaybeWord::Some(value) => value,
-        MaybeWord::None => Word { lo: 0, hi: 0 },
+        Some(value) => value,
+        None => Word { lo: 0, hi: 0 },
     }
 }
 
@@ -104,25 +104,25 @@ fn shift_width(ty: ScalarType) -> u16
 }
 
 // What the operator gives before it is taken as a value of its type.
-fn unreduced(operation: Binary, ty: ScalarType, a: Word, b: Word) -> MaybeWord
+fn unreduced(operation: Binary, ty: ScalarType, a: Word, b: Word) -> Option<Word>
     ensures { number_of result ≡ unreduced operation ty (val a) (val b) }
 {
     match operation {
         Binary::Add => add(ty, a, b),
         Binary::Sub => sub(ty, a, b),
         Binary::Mul => mul(ty, a, b),
-        Binary::And => MaybeWord::Some(a.bitand(b)),
-        Binary::Or => MaybeWord::Some(a.bitor(b)),
-        Binary::Xor => MaybeWord::Some(a.bitxor(b)),
-        Binary::ShiftLeft => MaybeWord::Some(shift_left(a, b)),
-        Binary::ShiftRight => MaybeWord::Some(shift_right(a, b)),
-        Binary::ArithmeticShiftRight => MaybeWord::Some(arithmetic_shift(shift_width(ty), a, b)),
-        Binary::Equal => MaybeWord::Some(from_bool(a.eq(b))),
-        Binary::NotEqual => MaybeWord::Some(from_bool(!a.eq(b))),
-        Binary::LessSigned => MaybeWord::Some(from_bool(a.as_signed().lt(b.as_signed()))),
-        Binary::LessUnsigned => MaybeWord::Some(from_bool(a.lt(b))),
-        Binary::LessEqualSigned => MaybeWord::Some(from_bool(a.as_signed().le(b.as_signed()))),
-        Binary::LessEqualUnsigned => MaybeWord::Some(from_bool(a.le(b))),
+        Binary::And => Some(a.bitand(b)),
+        Binary::Or => Some(a.bitor(b)),
+        Binary::Xor => Some(a.bitxor(b)),
+        Binary::ShiftLeft => Some(shift_left(a, b)),
+        Binary::ShiftRight => Some(shift_right(a, b)),
+        Binary::ArithmeticShiftRight => Some(arithmetic_shift(shift_width(ty), a, b)),
+        Binary::Equal => Some(from_bool(a.eq(b))),
+        Binary::NotEqual => Some(from_bool(!a.eq(b))),
+        Binary::LessSigned => Some(from_bool(a.as_signed().lt(b.as_signed()))),
+        Binary::LessUnsigned => Some(from_bool(a.lt(b))),
+        Binary::LessEqualSigned => Some(from_bool(a.as_signed().le(b.as_signed()))),
+        Binary::LessEqualUnsigned => Some(from_bool(a.le(b))),
         Binary::DivideSigned => pattern_of(a.as_signed().checked_div(b.as_signed())),
         Binary::RemainderSigned => pattern_of(a.as_signed().checked_rem(b.as_signed())),
         Binary::DivideUnsigned => a.checked_div(b),
@@ -131,13 +131,13 @@ fn unreduced(operation: Binary, ty: ScalarType, a: Word, b: Word) -> MaybeWord
 }
 
 // What the operator gives in a node of that type, at any width.
-pub fn binary_value(operation: Binary, ty: ScalarType, a: Word, b: Word) -> MaybeWord
+pub fn binary_value(operation: Binary, ty: ScalarType, a: Word, b: Word) -> Option<Word>
     ensures { number_of result ≡ binary_value operation ty (val a) (val b) }
 {
     let answer = unreduced(operation, ty, a, b);
     match answer {
-        MaybeWord::Some(value) => MaybeWord::Some(reduced(ty, value)),
-        MaybeWord::None => MaybeWord::None,
+        Some(value) => Some(reduced(ty, value)),
+        None => None,
     }
 }
 
@@ -149,7 +149,7 @@ pub fn evaluate_binary(operation: Binary, ty: ScalarType, a: Word, b: Word) -> E
     }
     let answer = binary_value(operation, ty, a, b);
     match answer {
-        MaybeWord::Some(result) => Evaluated::Value(result),
-        MaybeWord::None => Evaluated::None,
+        Some(result) => Evaluated::Value(result),
+        None => Evaluated::None,
     }
 }

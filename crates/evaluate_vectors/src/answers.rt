@@ -1,11 +1,11 @@
 // The answer to a vector: an operator's code evaluates it; past those the range of its node is asked, and then a function of ranges.
-use crate::operators::{MaybeBinary, MaybeType, MaybeUnary, binary_named, type_of, unary_named};
+use crate::operators::{binary_named, type_of, unary_named};
 use crate::rules::{function_answer, rule_answer};
 use evaluate::Evaluated;
 use evaluate::code::BINARY;
 use evaluate::one_operand::evaluate_unary;
 use evaluate::two_operands::evaluate_binary;
-use range::{MaybeRange, Range, ScalarType};
+use range::{Range, ScalarType};
 use word::Word;
 
 // From here on a vector asks for the range of an operator's node, its code above this.
@@ -48,10 +48,10 @@ pub(crate) fn of_bool(b: bool) -> Answer {
     }
 }
 
-pub(crate) fn of_maybe_range(r: MaybeRange) -> Answer {
+pub(crate) fn of_maybe_range(r: Option<Range>) -> Answer {
     match r {
-        MaybeRange::Some(range) => Answer::Interval(range),
-        MaybeRange::None => Answer::Nothing,
+        Some(range) => Answer::Interval(range),
+        None => Answer::Nothing,
     }
 }
 
@@ -66,16 +66,16 @@ fn of_evaluated(r: Evaluated) -> Answer {
 fn unary_answer(code: u64, width: u16, value: Word) -> Answer {
     let found = unary_named(code, width);
     match found {
-        MaybeUnary::Some(operation) => of_evaluated(evaluate_unary(operation, value)),
-        MaybeUnary::None => Answer::Malformed,
+        Some(operation) => of_evaluated(evaluate_unary(operation, value)),
+        None => Answer::Malformed,
     }
 }
 
 fn binary_answer(code: u64, ty: ScalarType, a: Word, b: Word) -> Answer {
     let found = binary_named(code);
     match found {
-        MaybeBinary::Some(operation) => of_evaluated(evaluate_binary(operation, ty, a, b)),
-        MaybeBinary::None => Answer::Malformed,
+        Some(operation) => of_evaluated(evaluate_binary(operation, ty, a, b)),
+        None => Answer::Malformed,
     }
 }
 
@@ -100,7 +100,7 @@ fn second_range(operands: Operands) -> Range {
 pub(crate) fn answer_of(head: Head, operands: Operands) -> Answer {
     let code = head.code;
     let found = type_of(head.type_code, head.width);
-    let MaybeType::Some(ty) = found else {
+    let Some(ty) = found else {
         return Answer::Malformed;
     };
     if code < BINARY {

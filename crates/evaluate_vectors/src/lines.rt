@@ -7,19 +7,7 @@ use crate::answers::{Answer, Head, Operands, answer_of};
 use range::Range;
 use text::put_text_in_room;
 use vector_lines::{Number, number_of, put_word_in_room, word_of};
-use word::{MaybeWord, Word};
-
-#[derive(Clone, Copy)]
-enum MaybeHead {
-    Some(Head),
-    None,
-}
-
-#[derive(Clone, Copy)]
-enum MaybeOperands {
-    Some(Operands),
-    None,
-}
+use word::Word;
 
 // Two hex digits and a space.
 fn code_of(text: &[u8]) -> Number {
@@ -33,60 +21,60 @@ fn code_of(text: &[u8]) -> Number {
 }
 
 // 32 hex digits and what stands after them.
-fn operand_of(text: &[u8], after: u8) -> MaybeWord {
+fn operand_of(text: &[u8], after: u8) -> Option<Word> {
     if text.len() != 33 {
-        return MaybeWord::None;
+        return None;
     }
     if text[32] != after {
-        return MaybeWord::None;
+        return None;
     }
     word_of(&text[0..32])
 }
 
-fn head_of(text: &[u8]) -> MaybeHead {
+fn head_of(text: &[u8]) -> Option<Head> {
     if text.len() != 9 {
-        return MaybeHead::None;
+        return None;
     }
     let first = code_of(&text[0..3]);
     let second = code_of(&text[3..6]);
     let third = code_of(&text[6..9]);
     let Number::Value(code) = first else {
-        return MaybeHead::None;
+        return None;
     };
     let Number::Value(type_code) = second else {
-        return MaybeHead::None;
+        return None;
     };
     let Number::Value(width) = third else {
-        return MaybeHead::None;
+        return None;
     };
-    MaybeHead::Some(Head {
+    Some(Head {
         code: code,
         type_code: type_code,
         width: (width % 256) as u16,
     })
 }
 
-fn operands_of(text: &[u8]) -> MaybeOperands {
+fn operands_of(text: &[u8]) -> Option<Operands> {
     if text.len() != 132 {
-        return MaybeOperands::None;
+        return None;
     }
     let first = operand_of(&text[0..33], b' ');
     let second = operand_of(&text[33..66], b' ');
     let third = operand_of(&text[66..99], b' ');
     let fourth = operand_of(&text[99..132], b'\n');
-    let MaybeWord::Some(a) = first else {
-        return MaybeOperands::None;
+    let Some(a) = first else {
+        return None;
     };
-    let MaybeWord::Some(b) = second else {
-        return MaybeOperands::None;
+    let Some(b) = second else {
+        return None;
     };
-    let MaybeWord::Some(c) = third else {
-        return MaybeOperands::None;
+    let Some(c) = third else {
+        return None;
     };
-    let MaybeWord::Some(d) = fourth else {
-        return MaybeOperands::None;
+    let Some(d) = fourth else {
+        return None;
     };
-    MaybeOperands::Some(Operands {
+    Some(Operands {
         a: a,
         b: b,
         c: c,
@@ -100,10 +88,10 @@ fn answer_to(line: &[u8]) -> Answer {
     }
     let first = head_of(&line[0..9]);
     let rest = operands_of(&line[9..141]);
-    let MaybeHead::Some(head) = first else {
+    let Some(head) = first else {
         return Answer::Malformed;
     };
-    let MaybeOperands::Some(operands) = rest else {
+    let Some(operands) = rest else {
         return Answer::Malformed;
     };
     answer_of(head, operands)

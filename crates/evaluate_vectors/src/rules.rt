@@ -2,7 +2,7 @@
 use crate::answers::{Answer, of_bool, of_maybe_range};
 use evaluate::{Binary, Unary};
 use range::typed::{mask, type_range};
-use range::{MaybeRange, Range, ScalarType};
+use range::{Range, ScalarType};
 
 // The range of an Integer node.
 fn integer_rule(operator: u64, a: Range, b: Range) -> Answer {
@@ -42,15 +42,15 @@ fn division_rule(operator: u64, a: Range, b: Range) -> Answer {
 }
 
 // The rule's range where it lies inside Bits(width), else the type's.
-fn in_bits(rule: MaybeRange, width: u16) -> Answer {
+fn in_bits(rule: Option<Range>, width: u16) -> Answer {
     let whole = type_range(ScalarType::Bits(width));
-    let MaybeRange::Some(range) = rule else {
+    let Some(range) = rule else {
         return of_maybe_range(whole);
     };
     let part = range.filtered(width);
     match part {
-        MaybeRange::Some(inside) => Answer::Interval(inside),
-        MaybeRange::None => of_maybe_range(whole),
+        Some(inside) => Answer::Interval(inside),
+        None => of_maybe_range(whole),
     }
 }
 

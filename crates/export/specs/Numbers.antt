@@ -1,6 +1,6 @@
 -- The requests that the numbers of an exported call ask for. Where a code names nothing, its widths and ids are asked all the same.
 use Rattle.std.specs.Prelude.{[], ◌∷◌, ℕ}
-use Rattle.std.proofs.Math.Option.{Option}
+use Rattle.std.specs.Prelude.{Option}
 use Rattle.word.specs.Option.{given}
 use Rattle.range.specs.Interval.{Interval}
 use Rattle.range.specs.declared.ScalarType.{ScalarType}

@@ -1,6 +1,6 @@
 -- The exported calls that read: what they find goes into a lent slice, and the answer is 1.
 use Rattle.std.specs.Prelude.{cond, List, [], ◌∷◌, ℕ, ◌-◌, ◌/◌, ◌%◌, ◌^◌, eqb, leb, length, take, drop}
-use Rattle.std.proofs.Math.Option.{Option, none}
+use Rattle.std.specs.Prelude.{Option, None}
 use Rattle.word.specs.Option.{mapped, from_bool, given}
 use Rattle.evaluate.specs.Answer as evaluate
 use Rattle.evaluate.specs.Answer.{evaluate_unary, evaluate_binary}
@@ -87,7 +87,7 @@ match_number (guard.refused r) = refused_as r
 abbrev pub values_guard : ℕ → ℕ → ℕ → Option Guard
 values_guard o e h =
     given (binary_by_code o)
-    (λ op. given (truth_by_number e) (λ x. mapped (λ y. record { op = op; left = 0; right = 0; expected = x; host64 = y }) (truth_by_number h)) none) none
+    (λ op. given (truth_by_number e) (λ x. mapped (λ y. record { op = op; left = 0; right = 0; expected = x; host64 = y }) (truth_by_number h)) None) None
 
 -- matches, its operator by code
 unfoldable pub matches_by_code : ℕ → ℕ → ℕ → ℕ → ℕ → ℕ

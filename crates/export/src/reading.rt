@@ -18,17 +18,13 @@ use evaluate::Evaluated;
 use evaluate::code::WIDEST_WORD;
 use evaluate::one_operand::evaluate_unary;
 use evaluate::two_operands::evaluate_binary;
-use fold::MaybeBool;
 use graph::NodeId;
 use graph::layout::{FIRST, SIZE, WORDS, count};
 use graph::well_formed::is_graph;
-use guard::{Guard, Matched, MaybeGuard};
+use guard::{Guard, Matched};
 use native::{Answer, Guarded, reading, refused_as};
 use range::typed::mask;
-use request::codes::{
-    MaybeBinary, MaybeType, MaybeUnary, binary_by_code, truth_by_number, type_by_code,
-    unary_by_code,
-};
+use request::codes::{binary_by_code, truth_by_number, type_by_code, unary_by_code};
 use word::Word;
 
 // The answer where a lent slice has another length than the words for it.
@@ -177,8 +173,8 @@ fn guard_by_number(g: &[u64], condition: u64, expected: u64) -> Guarded
     }
     let named = truth_by_number(expected);
     match named {
-        MaybeBool::Some(wanted) => reading::guard_in_graph(g, NodeId(condition), wanted),
-        MaybeBool::None => Guarded::Refused(Refusal::Typing),
+        Some(wanted) => reading::guard_in_graph(g, NodeId(condition), wanted),
+        None => Guarded::Refused(Refusal::Typing),
     }
 }
 
@@ -217,22 +213,22 @@ fn match_number(matched: Matched) -> u64
 }
 
 // A guard by its numbers, for values alone: its ids are not looked at.
-fn values_guard(operator: u64, expected: u64, host64: u64) -> MaybeGuard
+fn values_guard(operator: u64, expected: u64, host64: u64) -> Option<Guard>
     ensures { guard_of result ≡ values_guard operator expected host64 }
 {
     let named = binary_by_code(operator);
-    let MaybeBinary::Some(op) = named else {
-        return MaybeGuard::None;
+    let Some(op) = named else {
+        return None;
     };
     let truth = truth_by_number(expected);
-    let MaybeBool::Some(wanted) = truth else {
-        return MaybeGuard::None;
+    let Some(wanted) = truth else {
+        return None;
     };
     let words = truth_by_number(host64);
-    let MaybeBool::Some(host) = words else {
-        return MaybeGuard::None;
+    let Some(host) = words else {
+        return None;
     };
-    MaybeGuard::Some(Guard {
+    Some(Guard {
         operation: op,
         left: NodeId(0),
         right: NodeId(0),
@@ -255,7 +251,7 @@ pub extern "C" fn scalars_matches(
     ensures { result ≡ matches_by_code operator expected host64 (pair left_low left_high) (pair right_low right_high) }
 {
     let named = values_guard(operator, expected, host64);
-    let MaybeGuard::Some(guard) = named else {
+    let Some(guard) = named else {
         return refused_as(Refusal::Typing);
     };
     let left = Word {
@@ -278,8 +274,8 @@ fn unary_evaluated(operator: u64, parameter: u64, value: Word) -> Evaluated
     }
     let named = unary_by_code(operator, parameter);
     match named {
-        MaybeUnary::Some(op) => evaluate_unary(op, value),
-        MaybeUnary::None => Evaluated::Refused(Refusal::Typing),
+        Some(op) => evaluate_unary(op, value),
+        None => Evaluated::Refused(Refusal::Typing),
     }
 }
 
@@ -290,13 +286,13 @@ fn binary_evaluated(operator: u64, code: u64, width: u64, left: Word, right: Wor
         return Evaluated::Refused(Refusal::Width);
     }
     let named = type_by_code(code, width);
-    let MaybeType::Some(ty) = named else {
+    let Some(ty) = named else {
         return Evaluated::Refused(Refusal::Typing);
     };
     let operation = binary_by_code(operator);
     match operation {
-        MaybeBinary::Some(op) => evaluate_binary(op, ty, left, right),
-        MaybeBinary::None => Evaluated::Refused(Refusal::Typing),
+        Some(op) => evaluate_binary(op, ty, left, right),
+        None => Evaluated::Refused(Refusal::Typing),
     }
 }
 

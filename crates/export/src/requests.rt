@@ -6,14 +6,9 @@ ghost use Rattle.graph.specs.Node.{pair, range_of};
 ghost use Rattle.request.specs.Request.{request_of, unsigned_range};
 ghost use Rattle.export.specs.Numbers.{constant_by_code, input_by_code, effect_by_code, unary_by_codes, binary_by_codes, slice_by_numbers, concat_by_numbers, guard_by_numbers, asked_by};
 
-use fold::MaybeBool;
 use graph::{EffectId, InputId, NodeId};
-use range::MaybeRange;
 use request::Request;
-use request::codes::{
-    MaybeBinary, MaybeType, MaybeUnary, binary_by_code, clamped_width, range_by_words,
-    truth_by_number, type_by_code, unary_by_code,
-};
+use request::codes::{binary_by_code, clamped_width, range_by_words, truth_by_number, type_by_code, unary_by_code};
 use word::Word;
 
 // The numbers of a call. A type is its code and width, a 128-bit number two, low half first.
@@ -44,18 +39,18 @@ pub(crate) fn constant_request(code: u64, width: u64, value: Word) -> Request
 {
     let named = type_by_code(code, width);
     match named {
-        MaybeType::Some(ty) => Request::Constant(value, ty),
-        MaybeType::None => Request::UnnamedLeaf(clamped_width(width)),
+        Some(ty) => Request::Constant(value, ty),
+        None => Request::UnnamedLeaf(clamped_width(width)),
     }
 }
 
-fn input_request(number: u64, code: u64, width: u64, range: MaybeRange) -> Request
+fn input_request(number: u64, code: u64, width: u64, range: Option<Range>) -> Request
     ensures { request_of result ≡ input_by_code number code width (interval_of range) }
 {
     let named = type_by_code(code, width);
     match named {
-        MaybeType::Some(ty) => Request::Input(InputId(number), range, ty),
-        MaybeType::None => Request::UnnamedLeaf(clamped_width(width)),
+        Some(ty) => Request::Input(InputId(number), range, ty),
+        None => Request::UnnamedLeaf(clamped_width(width)),
     }
 }
 
@@ -64,8 +59,8 @@ fn effect_request(number: u64, code: u64, width: u64) -> Request
 {
     let named = type_by_code(code, width);
     match named {
-        MaybeType::Some(ty) => Request::Effect(EffectId(number), ty),
-        MaybeType::None => Request::UnnamedLeaf(clamped_width(width)),
+        Some(ty) => Request::Effect(EffectId(number), ty),
+        None => Request::UnnamedLeaf(clamped_width(width)),
     }
 }
 
@@ -85,11 +80,11 @@ pub(crate) fn unary_request(
         clamped_width(parameter),
     );
     let named = type_by_code(code, width);
-    let MaybeType::Some(ty) = named else {
+    let Some(ty) = named else {
         return unnamed;
     };
     let operation = unary_by_code(operator, parameter);
-    let MaybeUnary::Some(op) = operation else {
+    let Some(op) = operation else {
         return unnamed;
     };
     Request::Unary(NodeId(id), ty, op)
@@ -100,11 +95,11 @@ pub(crate) fn binary_request(code: u64, width: u64, operator: u64, left: u64, ri
 {
     let unnamed = Request::UnnamedOperation(NodeId(left), NodeId(right), clamped_width(width), 0);
     let named = type_by_code(code, width);
-    let MaybeType::Some(ty) = named else {
+    let Some(ty) = named else {
         return unnamed;
     };
     let operation = binary_by_code(operator);
-    let MaybeBinary::Some(op) = operation else {
+    let Some(op) = operation else {
         return unnamed;
     };
     Request::Binary(NodeId(left), NodeId(right), ty, op)
@@ -132,12 +127,12 @@ fn guard_request(condition: u64, expected: u64) -> Request
 {
     let named = truth_by_number(expected);
     match named {
-        MaybeBool::Some(wanted) => Request::Guard(NodeId(condition), wanted),
-        MaybeBool::None => Request::UnnamedOperation(NodeId(condition), NodeId(condition), 0, 0),
+        Some(wanted) => Request::Guard(NodeId(condition), wanted),
+        None => Request::UnnamedOperation(NodeId(condition), NodeId(condition), 0, 0),
     }
 }
 
-fn range_of(flag: u64, min_low: u64, min_high: u64, max_low: u64, max_high: u64) -> MaybeRange
+fn range_of(flag: u64, min_low: u64, min_high: u64, max_low: u64, max_high: u64) -> Option<Range>
     ensures { interval_of result ≡ range_of flag (pair min_low min_high) (pair max_low max_high) }
 {
     let min = Word {

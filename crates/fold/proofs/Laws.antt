@@ -2,7 +2,7 @@
 use mathlib.Core.Path.{◌≡◌, refl, ◌∙◌}
 use mathlib.Core.Bool.{true, false}
 use mathlib.Core.List.{List}
-use mathlib.Core.Option.{none, some}
+use Rattle.std.specs.Prelude.{None, Some}
 use Prim.Native.Nat.{ℕ, zero, suc, ◌+◌, ◌-◌, ◌%◌, ◌^◌, ◌<◌}
 use native.Mathlib.Nat.{add-mod_right, mod-eq_of_lt}
 use native.Mathlib.Omega.{arith}
@@ -15,11 +15,11 @@ use Rattle.fold.specs.Shape.{refined_at, down}
 -- ---- down a chain of Refines
 
 module _ (g : List ℕ) (n : ℕ) where
-  pub down_end : (k : ℕ) → refined_at g n ≡ none → down g k n ≡ n
+  pub down_end : (k : ℕ) → refined_at g n ≡ None → down g k n ≡ n
   down_end zero e = refl
   down_end (suc k) e = rw e
 
-  pub down_on : (k j p : ℕ) → k ≡ suc j → refined_at g n ≡ some p → down g k n ≡ down g j p
+  pub down_on : (k j p : ℕ) → k ≡ suc j → refined_at g n ≡ Some p → down g k n ≡ down g j p
   down_on k j p h e = rw (h, e)
 
 -- ---- words

@@ -1,6 +1,6 @@
 -- The range of a new node by its operands' ranges, and comparisons that ranges decide.
 use Rattle.std.specs.Prelude.{Bool, true, false, cond, not, ◌&&◌, ◌||◌, List, ℕ}
-use Rattle.std.proofs.Math.Option.{Option, none, some}
+use Rattle.std.specs.Prelude.{Option, None, Some}
 use Rattle.std.specs.Int.Signed.{lt_z, le_z}
 use Rattle.word.specs.Value.{eq_z}
 use Rattle.word.specs.Option.{provided, mapped, given, both_given, or_else}
@@ -16,20 +16,13 @@ use Rattle.graph.specs.Node.{Op, type_at, range_at}
 use Rattle.graph.specs.Insert.{constant_interval}
 use Rattle.fold.specs.Shape.{same_binary}
 use Rattle.fold.specs.declared.Derived as declared
-use Rattle.fold.specs.declared.Derived.TheVariants as derived
-use Rattle.fold.specs.declared.MaybeBool as declared-bool
-use Rattle.fold.specs.declared.MaybeBool.TheVariants as truth
 use Rattle.range.specs.Interval.{interval_of}
 
--- what a Derived stands for: the range of a new node, if the builder does not answer None
+-- what a Option (Option Range) stands for: the range of a new node, if the builder does not answer None
 abbrev pub derived_of : declared.Derived → Option (Option Interval)
-derived_of (derived.Some r) = some (interval_of r)
-derived_of derived.None = none
+derived_of (Some r) = Some (interval_of r)
+derived_of None = None
 
--- what a MaybeBool stands for
-abbrev pub truth_of : declared-bool.MaybeBool → Option Bool
-truth_of (truth.Some b) = some b
-truth_of truth.None = none
 
 -- ---- unary nodes
 
@@ -41,17 +34,17 @@ extended_range ty.Integer w = sign_extended w
 
 -- the operand's range negated, if it and that are there (native.rs 305 to 311)
 abbrev pub negated_range : Option Interval → Option (Option Interval)
-negated_range r = given r (λ a. mapped some (neg_interval a)) none
+negated_range r = given r (λ a. mapped Some (neg_interval a)) None
 
 -- the range of a new unary node; Negate needs its operand's (native.rs 304 to 319)
 unfoldable pub unary_range : ScalarType → Unary → Option Interval → Option (Option Interval)
-unary_range t un.BoolNot r = some (type_interval t)
-unary_range t un.BitNot r = some (type_interval t)
+unary_range t un.BoolNot r = Some (type_interval t)
+unary_range t un.BitNot r = Some (type_interval t)
 unary_range t un.Negate r = negated_range r
-unary_range t (un.Truncate w) r = some (type_interval t)
-unary_range t (un.SignExtend w) r = some (extended_range t w)
-unary_range t (un.LeadingZeros w) r = some (type_interval t)
-unary_range t (un.TrailingZeros w) r = some (type_interval t)
+unary_range t (un.Truncate w) r = Some (type_interval t)
+unary_range t (un.SignExtend w) r = Some (extended_range t w)
+unary_range t (un.LeadingZeros w) r = Some (type_interval t)
+unary_range t (un.TrailingZeros w) r = Some (type_interval t)
 
 -- ---- binary nodes
 
@@ -65,7 +58,7 @@ integer_rule o a b =
     (cond (same_binary o bi.DivideSigned) (quot_interval a b)
     (cond (same_binary o bi.RemainderSigned) (rem_interval a b)
     (cond (same_binary o bi.DivideUnsigned) (udiv_interval a b)
-    (cond (same_binary o bi.RemainderUnsigned) (urem_interval a b) none)))))))
+    (cond (same_binary o bi.RemainderUnsigned) (urem_interval a b) None)))))))
 
 -- the rules on Bits, before the result is held to its type (native.rs 554 to 580)
 unfoldable pub bits_rule : Binary → Interval → Interval → Option Interval
@@ -75,12 +68,12 @@ bits_rule o a b =
     (cond (same_binary o bi.Mul) (mul_interval a b)
     (cond (same_binary o bi.And) (and_interval a b)
     (cond (same_binary o bi.ShiftLeft) (shl_interval a b)
-    (cond (same_binary o bi.ShiftRight) (shr_interval a b) none)))))
+    (cond (same_binary o bi.ShiftRight) (shr_interval a b) None)))))
 
 -- a range, if there is one, as that of a result in Bits(w)
 abbrev pub held_to : ℕ → Option Interval → Option Interval
-held_to w none = none
-held_to w (some a) = filtered w a
+held_to w None = None
+held_to w (Some a) = filtered w a
 
 -- the rule's range on Bits, or the type's (native.rs 550 to 582)
 abbrev pub bits_range : ℕ → Binary → Option Interval → Option Interval → Option Interval
@@ -88,9 +81,9 @@ bits_range w o r s = or_else (held_to w (both_given r s (bits_rule o))) (type_in
 
 -- the range of a new binary node; on Integer both operands need one, and the operator a rule (native.rs 507 to 585)
 unfoldable pub binary_range : ScalarType → Binary → Option Interval → Option Interval → Option (Option Interval)
-binary_range ty.Bool o r s = some (type_interval ty.Bool)
-binary_range (ty.Bits w) o r s = some (bits_range w o r s)
-binary_range ty.Integer o r s = mapped some (both_given r s (integer_rule o))
+binary_range ty.Bool o r s = Some (type_interval ty.Bool)
+binary_range (ty.Bits w) o r s = Some (bits_range w o r s)
+binary_range ty.Integer o r s = mapped Some (both_given r s (integer_rule o))
 
 -- ---- any node
 
@@ -105,16 +98,16 @@ ranged_at g n = record { type = type_at g n; range = range_at g n }
 
 -- an operand of which nothing is told
 abbrev pub untold : ℕ → Ranged
-untold n = record { type = ty.Integer; range = none }
+untold n = record { type = ty.Integer; range = None }
 
 -- the range of a stored node, none where the builder answers None; an Input's may be given by its call, a Refine's is its source's or given by an assume
 abbrev pub stored_range : ScalarType → Op → (ℕ → Ranged) → Option (Option Interval)
-stored_range t (node.constant c) at = some (constant_interval t c)
-stored_range t (node.input i) at = some (type_interval t)
-stored_range t (node.refine i) at = some (at i).range
-stored_range t (node.effect i) at = some (type_interval t)
-stored_range t (node.slice i o w) at = some (type_interval t)
-stored_range t (node.concat i j w) at = some (type_interval t)
+stored_range t (node.constant c) at = Some (constant_interval t c)
+stored_range t (node.input i) at = Some (type_interval t)
+stored_range t (node.refine i) at = Some (at i).range
+stored_range t (node.effect i) at = Some (type_interval t)
+stored_range t (node.slice i o w) at = Some (type_interval t)
+stored_range t (node.concat i j w) at = Some (type_interval t)
 stored_range t (node.unary u i) at = unary_range t u (at i).range
 stored_range t (node.binary b i j) at = binary_range t b (at i).range (at j).range
 
@@ -127,16 +120,16 @@ apart a b = lt_z a.high b.low || lt_z b.high a.low
 -- equal where both are one number, different where they are apart
 abbrev pub equal_ranges : Interval → Interval → Option Bool
 equal_ranges a b =
-    cond (eq_z a.low a.high && same_interval a b) (some true)
-    (cond (apart a b) (some false) none)
+    cond (eq_z a.low a.high && same_interval a b) (Some true)
+    (cond (apart a b) (Some false) None)
 
 -- less where a ends below b, not less where a starts at b's end or above
 abbrev pub less_ranges : Interval → Interval → Option Bool
-less_ranges a b = cond (lt_z a.high b.low) (some true) (cond (le_z b.high a.low) (some false) none)
+less_ranges a b = cond (lt_z a.high b.low) (Some true) (cond (le_z b.high a.low) (Some false) None)
 
 -- the same for less or equal
 abbrev pub less_equal_ranges : Interval → Interval → Option Bool
-less_equal_ranges a b = cond (le_z a.high b.low) (some true) (cond (lt_z b.high a.low) (some false) none)
+less_equal_ranges a b = cond (le_z a.high b.low) (Some true) (cond (lt_z b.high a.low) (Some false) None)
 
 -- are both not negative, so that unsigned and signed order are one?
 abbrev pub unsigned_too : Interval → Interval → Bool
@@ -150,4 +143,4 @@ comparison o a b =
     (cond (same_binary o bi.LessSigned) (less_ranges a b)
     (cond (same_binary o bi.LessUnsigned) (provided (unsigned_too a b) (less_ranges a b))
     (cond (same_binary o bi.LessEqualSigned) (less_equal_ranges a b)
-    (cond (same_binary o bi.LessEqualUnsigned) (provided (unsigned_too a b) (less_equal_ranges a b)) none)))))
+    (cond (same_binary o bi.LessEqualUnsigned) (provided (unsigned_too a b) (less_equal_ranges a b)) None)))))

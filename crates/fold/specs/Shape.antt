@@ -1,6 +1,6 @@
 -- What a builder reads off nodes: their types, ranges and constants, and the shapes that a fold looks for.
 use Rattle.std.specs.Prelude.{Bool, true, false, ◌||◌, List, [], ◌∷◌, ℕ, zero, suc, min, ◌-◌, ◌^◌, eqb, leb}
-use Rattle.std.proofs.Math.Option.{Option, none, some}
+use Rattle.std.specs.Prelude.{Option, None, Some}
 use Rattle.range.specs.Interval.{Interval, nonnegative, inside_bits}
 use Rattle.range.specs.declared.ScalarType.{ScalarType}
 use Rattle.range.specs.declared.ScalarType.TheVariants as ty
@@ -13,10 +13,7 @@ use Rattle.graph.specs.Insert.{literal}
 use Rattle.word.specs.Value.{val}
 use Rattle.word.specs.Option.{mapped, given}
 use Rattle.fold.specs.declared.ByConstant as declared
-use Rattle.fold.specs.declared.MaybeByConstant as declared-maybe
-use Rattle.fold.specs.declared.MaybeByConstant.TheVariants as maybe
-use Rattle.fold.specs.declared.MaybeId as declared-id
-use Rattle.fold.specs.declared.MaybeId.TheVariants as ids
+use Rattle.graph.specs.declared.NodeId as declared-id
 
 -- are two types equal?
 abbrev pub same_type : ScalarType → ScalarType → Bool
@@ -67,10 +64,10 @@ pub record ByConstant : Type 0 where
 abbrev pub one_by_constant_of : declared.ByConstant → ByConstant
 one_by_constant_of c = record { op = c.op; base = c.base.0; value = val c.value }
 
--- what a MaybeByConstant stands for
-abbrev pub maybe_by_constant_of : declared-maybe.MaybeByConstant → Option ByConstant
-maybe_by_constant_of (maybe.Some c) = some (one_by_constant_of c)
-maybe_by_constant_of maybe.None = none
+-- what a Option ByConstant stands for
+abbrev pub maybe_by_constant_of : Option declared.ByConstant → Option ByConstant
+maybe_by_constant_of (Some c) = Some (one_by_constant_of c)
+maybe_by_constant_of None = None
 
 -- the operation with this constant, if there is one
 abbrev pub with_constant : Binary → ℕ → Option ℕ → Option ByConstant
@@ -78,34 +75,34 @@ with_constant o base = mapped (λ v. record { op = o; base = base; value = v })
 
 -- the operation of that shape
 abbrev pub by_constant_of : List ℕ → Op → Option ByConstant
-by_constant_of g (node.constant c) = none
-by_constant_of g (node.input i) = none
-by_constant_of g (node.refine i) = none
-by_constant_of g (node.effect i) = none
-by_constant_of g (node.slice i o w) = none
-by_constant_of g (node.concat i j w) = none
-by_constant_of g (node.unary u i) = none
+by_constant_of g (node.constant c) = None
+by_constant_of g (node.input i) = None
+by_constant_of g (node.refine i) = None
+by_constant_of g (node.effect i) = None
+by_constant_of g (node.slice i o w) = None
+by_constant_of g (node.concat i j w) = None
+by_constant_of g (node.unary u i) = None
 by_constant_of g (node.binary o i j) = with_constant o i (literal g j)
 
 -- node n, if it is of that shape
 unfoldable pub by_constant_at : List ℕ → ℕ → Option ByConstant
 by_constant_at g n = by_constant_of g (operation_at g n)
 
--- what a MaybeId stands for
-abbrev pub id_of : declared-id.MaybeId → Option ℕ
-id_of (ids.Some i) = some i.0
-id_of ids.None = none
+-- what a Option NodeId stands for
+abbrev pub id_of : Option declared-id.NodeId → Option ℕ
+id_of (Some i) = Some i.0
+id_of None = None
 
 -- the source of a Refine
 abbrev pub refined_of : Op → Option ℕ
-refined_of (node.constant c) = none
-refined_of (node.input i) = none
-refined_of (node.refine i) = some i
-refined_of (node.effect i) = none
-refined_of (node.slice i o w) = none
-refined_of (node.concat i j w) = none
-refined_of (node.unary u i) = none
-refined_of (node.binary o i j) = none
+refined_of (node.constant c) = None
+refined_of (node.input i) = None
+refined_of (node.refine i) = Some i
+refined_of (node.effect i) = None
+refined_of (node.slice i o w) = None
+refined_of (node.concat i j w) = None
+refined_of (node.unary u i) = None
+refined_of (node.binary o i j) = None
 
 -- the source of node n, if it is a Refine
 unfoldable pub refined_at : List ℕ → ℕ → Option ℕ

@@ -2,12 +2,11 @@
 ghost use Rattle.word.specs.Option.{provided, mapped, both_given};
 ghost use Rattle.std.specs.Prelude.{◌≡◌, not};
 ghost use Rattle.range.specs.Interval.{bounds_of, interval_of};
-ghost use Rattle.fold.specs.Range.{truth_of, apart, equal_ranges, less_ranges, less_equal_ranges, unsigned_too, comparison};
+ghost use Rattle.fold.specs.Range.{apart, equal_ranges, less_ranges, less_equal_ranges, unsigned_too, comparison};
 
-use crate::MaybeBool;
 use crate::operator::same_binary;
 use evaluate::Binary;
-use range::{MaybeRange, Range};
+use range::Range;
 
 fn apart(a: Range, b: Range) -> bool
     ensures { result ≡ apart (bounds_of a) (bounds_of b) }
@@ -21,47 +20,47 @@ fn apart(a: Range, b: Range) -> bool
     }
 }
 
-fn equal_ranges(a: Range, b: Range) -> MaybeBool
-    ensures { truth_of result ≡ equal_ranges (bounds_of a) (bounds_of b) }
+fn equal_ranges(a: Range, b: Range) -> Option<bool>
+    ensures { result ≡ equal_ranges (bounds_of a) (bounds_of b) }
 {
     let low = a.min;
     if low.eq(a.max) && a.eq(b) {
-        return MaybeBool::Some(true);
+        return Some(true);
     }
     if apart(a, b) {
-        MaybeBool::Some(false)
+        Some(false)
     } else {
-        MaybeBool::None
+        None
     }
 }
 
-fn less_ranges(a: Range, b: Range) -> MaybeBool
-    ensures { truth_of result ≡ less_ranges (bounds_of a) (bounds_of b) }
+fn less_ranges(a: Range, b: Range) -> Option<bool>
+    ensures { result ≡ less_ranges (bounds_of a) (bounds_of b) }
 {
     let first = a.max;
     let second = b.max;
     if first.lt(b.min) {
-        return MaybeBool::Some(true);
+        return Some(true);
     }
     if second.le(a.min) {
-        MaybeBool::Some(false)
+        Some(false)
     } else {
-        MaybeBool::None
+        None
     }
 }
 
-fn less_equal_ranges(a: Range, b: Range) -> MaybeBool
-    ensures { truth_of result ≡ less_equal_ranges (bounds_of a) (bounds_of b) }
+fn less_equal_ranges(a: Range, b: Range) -> Option<bool>
+    ensures { result ≡ less_equal_ranges (bounds_of a) (bounds_of b) }
 {
     let first = a.max;
     let second = b.max;
     if first.le(b.min) {
-        return MaybeBool::Some(true);
+        return Some(true);
     }
     if second.lt(a.min) {
-        MaybeBool::Some(false)
+        Some(false)
     } else {
-        MaybeBool::None
+        None
     }
 }
 
@@ -76,23 +75,23 @@ pub fn unsigned_too(a: Range, b: Range) -> bool
     }
 }
 
-fn negated_truth(truth: MaybeBool) -> MaybeBool
-    ensures { truth_of result ≡ mapped not (truth_of truth) }
+fn negated_truth(truth: Option<bool>) -> Option<bool>
+    ensures { result ≡ mapped not truth }
 {
     match truth {
-        MaybeBool::Some(value) => MaybeBool::Some(!value),
-        MaybeBool::None => MaybeBool::None,
+        Some(value) => Some(!value),
+        None => None,
     }
 }
 
-fn if_unsigned(is: bool, truth: MaybeBool) -> MaybeBool
-    ensures { truth_of result ≡ provided is (truth_of truth) }
+fn if_unsigned(is: bool, truth: Option<bool>) -> Option<bool>
+    ensures { result ≡ provided is truth }
 {
-    if is { truth } else { MaybeBool::None }
+    if is { truth } else { None }
 }
 
-fn comparison(op: Binary, a: Range, b: Range) -> MaybeBool
-    ensures { truth_of result ≡ comparison op (bounds_of a) (bounds_of b) }
+fn comparison(op: Binary, a: Range, b: Range) -> Option<bool>
+    ensures { result ≡ comparison op (bounds_of a) (bounds_of b) }
 {
     if same_binary(op, Binary::Equal) {
         return equal_ranges(a, b);
@@ -112,18 +111,18 @@ fn comparison(op: Binary, a: Range, b: Range) -> MaybeBool
     if same_binary(op, Binary::LessEqualUnsigned) {
         return if_unsigned(unsigned_too(a, b), less_equal_ranges(a, b));
     }
-    MaybeBool::None
+    None
 }
 
 // What two ranges say of a comparison, if both are there.
-pub fn compared(op: Binary, left: MaybeRange, right: MaybeRange) -> MaybeBool
-    ensures { truth_of result ≡ both_given (interval_of left) (interval_of right) (comparison op) }
+pub fn compared(op: Binary, left: Option<Range>, right: Option<Range>) -> Option<bool>
+    ensures { result ≡ both_given (interval_of left) (interval_of right) (comparison op) }
 {
-    let MaybeRange::Some(a) = left else {
-        return MaybeBool::None;
+    let Some(a) = left else {
+        return None;
     };
-    let MaybeRange::Some(b) = right else {
-        return MaybeBool::None;
+    let Some(b) = right else {
+        return None;
     };
     comparison(op, a, b)
 }

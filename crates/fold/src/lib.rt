@@ -8,27 +8,7 @@ pub mod shape;
 
 use evaluate::Binary;
 use graph::NodeId;
-use range::MaybeRange;
 use word::Word;
-
-#[derive(Clone, Copy)]
-pub enum MaybeId {
-    Some(NodeId),
-    None,
-}
-
-#[derive(Clone, Copy)]
-pub enum MaybeBool {
-    Some(bool),
-    None,
-}
-
-// The range of a new node, which may have none; or the builder answers None.
-#[derive(Clone, Copy)]
-pub enum Derived {
-    Some(MaybeRange),
-    None,
-}
 
 // A binary operation whose right operand is a constant.
 #[derive(Clone, Copy)]
@@ -38,8 +18,3 @@ pub struct ByConstant {
     pub value: Word,
 }
 
-#[derive(Clone, Copy)]
-pub enum MaybeByConstant {
-    Some(ByConstant),
-    None,
-}

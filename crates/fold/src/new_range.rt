@@ -4,13 +4,12 @@ ghost use Rattle.std.specs.Prelude.{◌≡◌};
 ghost use Rattle.range.specs.Interval.{bounds_of, interval_of};
 ghost use Rattle.fold.specs.Range.{derived_of, extended_range, negated_range, bits_range, unary_range, integer_rule, bits_rule, held_to, binary_range};
 
-use crate::Derived;
 use crate::operator::same_binary;
 use evaluate::{Binary, Unary};
 use range::typed::type_range;
-use range::{MaybeRange, Range, ScalarType};
+use range::{Range, ScalarType};
 
-fn extended_range(ty: ScalarType, width: u16) -> MaybeRange
+fn extended_range(ty: ScalarType, width: u16) -> Option<Range>
     ensures { interval_of result ≡ extended_range ty width }
 {
     match ty {
@@ -20,34 +19,34 @@ fn extended_range(ty: ScalarType, width: u16) -> MaybeRange
     }
 }
 
-fn negated(range: MaybeRange) -> Derived
+fn negated(range: Option<Range>) -> Option<Option<Range>>
     ensures { derived_of result ≡ negated_range (interval_of range) }
 {
-    let MaybeRange::Some(given) = range else {
-        return Derived::None;
+    let Some(given) = range else {
+        return None;
     };
     let negative = given.negate();
     match negative {
-        MaybeRange::Some(bounds) => Derived::Some(MaybeRange::Some(bounds)),
-        MaybeRange::None => Derived::None,
+        Some(bounds) => Some(Some(bounds)),
+        None => None,
     }
 }
 
-pub fn unary_range(ty: ScalarType, op: Unary, range: MaybeRange) -> Derived
+pub fn unary_range(ty: ScalarType, op: Unary, range: Option<Range>) -> Option<Option<Range>>
     ensures { derived_of result ≡ unary_range ty op (interval_of range) }
 {
     match op {
-        Unary::BoolNot => Derived::Some(type_range(ty)),
-        Unary::BitNot => Derived::Some(type_range(ty)),
+        Unary::BoolNot => Some(type_range(ty)),
+        Unary::BitNot => Some(type_range(ty)),
         Unary::Negate => negated(range),
-        Unary::Truncate(_) => Derived::Some(type_range(ty)),
-        Unary::SignExtend(width) => Derived::Some(extended_range(ty, width)),
-        Unary::LeadingZeros(_) => Derived::Some(type_range(ty)),
-        Unary::TrailingZeros(_) => Derived::Some(type_range(ty)),
+        Unary::Truncate(_) => Some(type_range(ty)),
+        Unary::SignExtend(width) => Some(extended_range(ty, width)),
+        Unary::LeadingZeros(_) => Some(type_range(ty)),
+        Unary::TrailingZeros(_) => Some(type_range(ty)),
     }
 }
 
-fn integer_rule(op: Binary, a: Range, b: Range) -> MaybeRange
+fn integer_rule(op: Binary, a: Range, b: Range) -> Option<Range>
     ensures { interval_of result ≡ integer_rule op (bounds_of a) (bounds_of b) }
 {
     if same_binary(op, Binary::Add) {
@@ -74,10 +73,10 @@ fn integer_rule(op: Binary, a: Range, b: Range) -> MaybeRange
     if same_binary(op, Binary::RemainderUnsigned) {
         return a.remainder_unsigned(b);
     }
-    MaybeRange::None
+    None
 }
 
-fn bits_rule(op: Binary, a: Range, b: Range) -> MaybeRange
+fn bits_rule(op: Binary, a: Range, b: Range) -> Option<Range>
     ensures { interval_of result ≡ bits_rule op (bounds_of a) (bounds_of b) }
 {
     if same_binary(op, Binary::Add) {
@@ -98,60 +97,60 @@ fn bits_rule(op: Binary, a: Range, b: Range) -> MaybeRange
     if same_binary(op, Binary::ShiftRight) {
         return a.shift_right(b);
     }
-    MaybeRange::None
+    None
 }
 
 // The rule on Integer where both operands have a range.
-fn integer_range(op: Binary, left: MaybeRange, right: MaybeRange) -> MaybeRange
+fn integer_range(op: Binary, left: Option<Range>, right: Option<Range>) -> Option<Range>
     ensures { interval_of result ≡ both_given (interval_of left) (interval_of right) (integer_rule op) }
 {
-    let MaybeRange::Some(a) = left else {
-        return MaybeRange::None;
+    let Some(a) = left else {
+        return None;
     };
-    let MaybeRange::Some(b) = right else {
-        return MaybeRange::None;
+    let Some(b) = right else {
+        return None;
     };
     integer_rule(op, a, b)
 }
 
 // The rule on Bits where both operands have a range, held to the type.
-fn refined(width: u16, op: Binary, left: MaybeRange, right: MaybeRange) -> MaybeRange
+fn refined(width: u16, op: Binary, left: Option<Range>, right: Option<Range>) -> Option<Range>
     ensures { interval_of result ≡ held_to width (both_given (interval_of left) (interval_of right) (bits_rule op)) }
 {
-    let MaybeRange::Some(a) = left else {
-        return MaybeRange::None;
+    let Some(a) = left else {
+        return None;
     };
-    let MaybeRange::Some(b) = right else {
-        return MaybeRange::None;
+    let Some(b) = right else {
+        return None;
     };
     let ruled = bits_rule(op, a, b);
     match ruled {
-        MaybeRange::Some(bounds) => bounds.filtered(width),
-        MaybeRange::None => MaybeRange::None,
+        Some(bounds) => bounds.filtered(width),
+        None => None,
     }
 }
 
-fn bits_or_type(width: u16, op: Binary, left: MaybeRange, right: MaybeRange) -> MaybeRange
+fn bits_or_type(width: u16, op: Binary, left: Option<Range>, right: Option<Range>) -> Option<Range>
     ensures { interval_of result ≡ bits_range width op (interval_of left) (interval_of right) }
 {
     let held = refined(width, op, left, right);
     match held {
-        MaybeRange::Some(bounds) => MaybeRange::Some(bounds),
-        MaybeRange::None => type_range(ScalarType::Bits(width)),
+        Some(bounds) => Some(bounds),
+        None => type_range(ScalarType::Bits(width)),
     }
 }
 
-pub fn binary_range(ty: ScalarType, op: Binary, left: MaybeRange, right: MaybeRange) -> Derived
+pub fn binary_range(ty: ScalarType, op: Binary, left: Option<Range>, right: Option<Range>) -> Option<Option<Range>>
     ensures { derived_of result ≡ binary_range ty op (interval_of left) (interval_of right) }
 {
     match ty {
-        ScalarType::Bool => Derived::Some(type_range(ty)),
-        ScalarType::Bits(width) => Derived::Some(bits_or_type(width, op, left, right)),
+        ScalarType::Bool => Some(type_range(ty)),
+        ScalarType::Bits(width) => Some(bits_or_type(width, op, left, right)),
         ScalarType::Integer => {
             let derived = integer_range(op, left, right);
             match derived {
-                MaybeRange::Some(bounds) => Derived::Some(MaybeRange::Some(bounds)),
-                MaybeRange::None => Derived::None,
+                Some(bounds) => Some(Some(bounds)),
+                None => None,
             }
         }
     }

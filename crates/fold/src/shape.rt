@@ -7,13 +7,12 @@ ghost use Rattle.graph.specs.Layout.{REGION};
 ghost use Rattle.graph.specs.Node.{op_of};
 ghost use Rattle.fold.specs.Shape.{same_type, narrow_type, not_negative, fits, with_constant, maybe_by_constant_of, by_constant_at, id_of, refined_of, refined_at, origin};
 
-use crate::{ByConstant, MaybeByConstant, MaybeId};
+use crate::ByConstant;
 use evaluate::Binary;
 use graph::layout::LIMIT;
 use graph::read::{literal, operation_at};
 use graph::{NodeId, Operation};
-use range::{MaybeRange, ScalarType};
-use word::MaybeWord;
+use range::ScalarType;
 
 pub fn same_type(a: ScalarType, b: ScalarType) -> bool
     ensures { result ≡ same_type a b }
@@ -48,98 +47,98 @@ pub fn is_narrow(ty: ScalarType, width: u16) -> bool
     }
 }
 
-pub fn is_not_negative(range: MaybeRange) -> bool
+pub fn is_not_negative(range: Option<Range>) -> bool
     ensures { result ≡ not_negative (interval_of range) }
 {
     match range {
-        MaybeRange::Some(bounds) => bounds.is_nonnegative(),
-        MaybeRange::None => false,
+        Some(bounds) => bounds.is_nonnegative(),
+        None => false,
     }
 }
 
 // Is there a range, and does it lie in Bits(width)?
-pub fn fits(range: MaybeRange, width: u16) -> bool
+pub fn fits(range: Option<Range>, width: u16) -> bool
     ensures { result ≡ fits width (interval_of range) }
 {
     match range {
-        MaybeRange::Some(bounds) => bounds.is_in_bits(width),
-        MaybeRange::None => false,
+        Some(bounds) => bounds.is_in_bits(width),
+        None => false,
     }
 }
 
-pub fn is_some(value: MaybeWord) -> bool
+pub fn is_some(value: Option<Word>) -> bool
     ensures { result ≡ is_some (number_of value) }
 {
     match value {
-        MaybeWord::Some(_) => true,
-        MaybeWord::None => false,
+        Some(_) => true,
+        None => false,
     }
 }
 
-fn with_constant(op: Binary, base: NodeId, value: MaybeWord) -> MaybeByConstant
+fn with_constant(op: Binary, base: NodeId, value: Option<Word>) -> Option<ByConstant>
     ensures { maybe_by_constant_of result ≡ with_constant op base.0 (number_of value) }
 {
     match value {
-        MaybeWord::Some(constant) => MaybeByConstant::Some(ByConstant {
+        Some(constant) => Some(ByConstant {
             op: op,
             base: base,
             value: constant,
         }),
-        MaybeWord::None => MaybeByConstant::None,
+        None => None,
     }
 }
 
 // The node, if it is a binary operation whose right operand is a constant.
-pub fn by_constant_at(g: &[u64], id: NodeId) -> MaybeByConstant
+pub fn by_constant_at(g: &[u64], id: NodeId) -> Option<ByConstant>
     requires { length g.now ≡ REGION }
     ensures { maybe_by_constant_of result ≡ by_constant_at g.now id.0 }
 {
     let operation = operation_at(g, id);
     match operation {
-        Operation::Constant(_) => MaybeByConstant::None,
-        Operation::Input(_) => MaybeByConstant::None,
-        Operation::Refine(_) => MaybeByConstant::None,
-        Operation::Effect(_) => MaybeByConstant::None,
+        Operation::Constant(_) => None,
+        Operation::Input(_) => None,
+        Operation::Refine(_) => None,
+        Operation::Effect(_) => None,
         Operation::Slice {
             value: _,
             offset: _,
             width: _,
-        } => MaybeByConstant::None,
+        } => None,
         Operation::Concat {
             high: _,
             low: _,
             low_width: _,
-        } => MaybeByConstant::None,
-        Operation::Unary(_, _) => MaybeByConstant::None,
+        } => None,
+        Operation::Unary(_, _) => None,
         Operation::Binary(op, base, right) => with_constant(op, base, literal(g, right)),
     }
 }
 
-fn refined_of(operation: Operation) -> MaybeId
+fn refined_of(operation: Operation) -> Option<NodeId>
     ensures { id_of result ≡ refined_of (op_of operation) }
 {
     match operation {
-        Operation::Constant(_) => MaybeId::None,
-        Operation::Input(_) => MaybeId::None,
-        Operation::Refine(source) => MaybeId::Some(source),
-        Operation::Effect(_) => MaybeId::None,
+        Operation::Constant(_) => None,
+        Operation::Input(_) => None,
+        Operation::Refine(source) => Some(source),
+        Operation::Effect(_) => None,
         Operation::Slice {
             value: _,
             offset: _,
             width: _,
-        } => MaybeId::None,
+        } => None,
         Operation::Concat {
             high: _,
             low: _,
             low_width: _,
-        } => MaybeId::None,
-        Operation::Unary(_, _) => MaybeId::None,
-        Operation::Binary(_, _, _) => MaybeId::None,
+        } => None,
+        Operation::Unary(_, _) => None,
+        Operation::Binary(_, _, _) => None,
     }
 }
 
 // The source of the node, if it is a Refine.
-pub fn refined_at(g: &[u64], id: NodeId) -> MaybeId
+pub fn refined_at(g: &[u64], id: NodeId) -> Option<NodeId>
     requires { length g.now ≡ REGION }
     ensures { id_of result ≡ refined_at g.now id.0 }
 {
@@ -155,7 +154,7 @@ pub fn origin(g: &[u64], id: NodeId) -> NodeId
     let mut left = LIMIT;
     while 0 < left {
         let source = refined_at(g, NodeId(at));
-        let MaybeId::Some(previous) = source else {
+        let Some(previous) = source else {
             return NodeId(at);
         };
         at = previous.0;

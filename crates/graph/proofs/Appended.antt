@@ -3,7 +3,7 @@ use mathlib.Core.Path.{◌≡◌, refl, sym, ap, ◌∙◌, subst}
 use mathlib.Core.Bool.{Bool, true, false, cond, false≢true, ◌&&◌}
 use mathlib.Core.List.{List}
 use mathlib.Core.Logic.{inl, inr, ⊎_elim}
-use mathlib.Core.Option.{Option, none, some}
+use Rattle.std.specs.Prelude.{Option, None, Some}
 use Prim.Native.Nat.{ℕ, zero, suc, min, ◌+◌, ◌-◌, ◌*◌, ◌/◌, ◌%◌, ◌^◌, ◌≤◌, ◌<◌}
 use native.Mathlib.Decide.{dec_lt}
 use native.Mathlib.Nat.{div-add-mod', mod-lt}
@@ -58,10 +58,10 @@ type-written (ty.Bits w) l = le-leb w WIDEST l
 type-written ty.Integer l = refl
 
 range-written : (t : ScalarType) (r : Option Interval) → type_width t < 2 ^ 16 → mag (low_end r) < 2 ^ 127 → mag (high_end r) < 2 ^ 127
-    → ((a : Interval) → r ≡ some a → Valid t a)
+    → ((a : Interval) → r ≡ Some a → Valid t a)
     → is_range (type_code t) (type_width t) (range_flag r) (pair (range_low r % 2 ^ 64) (range_low r / 2 ^ 64)) (pair (range_high r % 2 ^ 64) (range_high r / 2 ^ 64)) ≡ true
-range-written t none w l h v = refl
-range-written t (some a) w l h v =
+range-written t None w l h v = refl
+range-written t (Some a) w l h v =
     let d = v a refl in
     rw (pair_back (residue 128 a.low), pair_back (residue 128 a.high), signed-residue 128 a.low (lit< tt) l, signed-residue 128 a.high (lit< tt) h, type_back t w)
     (rw (le_test d.full) d.inside)
@@ -112,7 +112,7 @@ module _ (g : List ℕ) (t : ScalarType) (r : Option Interval) (o : Op)
   )
 
   -- and would have been found
-  pub new_key : count_of g ≤ LIMIT → interned g o (words_of t r o) ≡ none → (n : ℕ) → n < count_of g → node_at g n ≡ record { type = t; range = r; operation = o } → ⊥
+  pub new_key : count_of g ≤ LIMIT → interned g o (words_of t r o) ≡ None → (n : ℕ) → n < count_of g → node_at g n ≡ record { type = t; range = r; operation = o } → ⊥
   new_key l unknown n h e =
       let same = equal_key n h e in
       let fails = lowest-none (same_key g (words_of t r o)) (min (start o) LIMIT) (min (count_of g) LIMIT - min (start o) LIMIT) unknown n (omega arith) (omega arith) in
@@ -132,7 +132,7 @@ module _ (g : List ℕ) (t : ScalarType) (r : Option Interval) (o : Op) (size : 
       ∙ ap (λ (p : Parts). get_or (words_for p) k 0) (sym (node_other g (words_of t r o) size (length-words t r o) room n d))
 
   module _ (below : (n : ℕ) → n < count_of g → start (operation_at g n) ≤ n) (exact : (n : ℕ) → n < count_of g → Exact g n)
-      (unknown : interned g o (words_of t r o) ≡ none) where
+      (unknown : interned g o (words_of t r o) ≡ None) where
     pub keys_grown : Keys g → Keys (appended g (words_of t r o)).words
     keys_grown keys n m a b e = go (dec_lt m (count_of g))
       where
@@ -152,7 +152,7 @@ module _ (g : List ℕ) (t : ScalarType) (r : Option Interval) (o : Op) (size : 
 -- ---- question 1 of what is left
 
 module _ (g : List ℕ) (t : ScalarType) (r : Option Interval) (o : Op) (f : Graph g) (room : count_of g < LIMIT) (s : Stored t r o) (width : type_width t ≤ WIDEST)
-    (below : start o ≤ count_of g) (offset : op_offset o < OFFSETS) (parameter : op_z o ≤ WIDEST) (valid : (a : Interval) → r ≡ some a → Valid t a) where
+    (below : start o ≤ count_of g) (offset : op_offset o < OFFSETS) (parameter : op_z o ≤ WIDEST) (valid : (a : Interval) → r ≡ Some a → Valid t a) where
   unfoldable grown : List ℕ
   grown = (appended g (words_of t r o)).words
 
@@ -224,14 +224,14 @@ empty_graph =
     (record { length = length-replicate {A = ℕ} REGION 0; count = omega arith; node = λ n l. absurd (omega arith); rest = λ i l. zeros REGION i })
 
 -- the range of a node of a graph is not empty and lies inside its type
-pub range_valid : {g : List ℕ} → Graph g → (n : ℕ) → n < count_of g → (a : Interval) → range_at g n ≡ some a → Valid (type_at g n) a
+pub range_valid : {g : List ℕ} → Graph g → (n : ℕ) → n < count_of g → (a : Interval) → range_at g n ≡ Some a → Valid (type_at g n) a
 range_valid {g} f n l a e = by (eqb (word_at g n RANGE) 0) _ (node_facts g (count_of g) n (f.node n l)).range e
   where
     b : Interval
     b = record { low = signed 128 (pair (word_at g n MIN) (word_at g n (MIN + 1))); high = signed 128 (pair (word_at g n MAX) (word_at g n (MAX + 1))) }
 
     by : (z x : Bool) → cond z x (eqb (word_at g n RANGE) 1 && (le_z b.low b.high && inside_type (type_at g n) b)) ≡ true
-        → cond z none (some b) ≡ some a → Valid (type_at g n) a
+        → cond z None (Some b) ≡ Some a → Valid (type_at g n) a
     by true x p q = absurd (none-some q)
     by false x p q =
         let d = tests (le_z b.low b.high) _ (tests (eqb (word_at g n RANGE) 1) _ p).1 in

@@ -1,7 +1,7 @@
 -- Codes and fields: what is encoded is decoded. Assumes nothing.
 use mathlib.Core.Path.{◌≡◌, refl, sym, ap, ◌∙◌}
 use mathlib.Core.Bool.{Bool, true, false, cond}
-use mathlib.Core.Option.{Option, none, some}
+use Rattle.std.specs.Prelude.{Option, None, Some}
 use Prim.Native.Nat.{ℕ, ◌/◌, ◌%◌, ◌^◌, ◌<◌}
 use native.Mathlib.Nat.{div-add-mod', mod-eq_of_lt}
 use native.Mathlib.Omega.{arith}
@@ -44,14 +44,14 @@ either f b true p q = p
 either f b false p q = q
 
 -- only one code is a constant's
-pub not-constant : (code x y z : ℕ) → (code ≡ CONSTANT → ⊥) → literal_of (operation_of code x y z) ≡ none
+pub not-constant : (code x y z : ℕ) → (code ≡ CONSTANT → ⊥) → literal_of (operation_of code x y z) ≡ None
 not-constant code x y z h =
     rw (ne_eqb code CONSTANT h)
-    (either literal_of none (eqb code INPUT) refl
-    (either literal_of none (eqb code REFINE) refl
-    (either literal_of none (eqb code EFFECT) refl
-    (either literal_of none (eqb code SLICE) refl
-    (either literal_of none (eqb code CONCAT) refl (either literal_of none (ltb code BINARY) refl refl))))))
+    (either literal_of None (eqb code INPUT) refl
+    (either literal_of None (eqb code REFINE) refl
+    (either literal_of None (eqb code EFFECT) refl
+    (either literal_of None (eqb code SLICE) refl
+    (either literal_of None (eqb code CONCAT) refl (either literal_of None (ltb code BINARY) refl refl))))))
 
 -- ---- fields
 
@@ -69,12 +69,12 @@ narrow_back n h = mod-eq_of_lt h
 
 -- the ends of a range, 0 without one
 abbrev pub low_end : Option Interval → ℤ
-low_end none = pos 0
-low_end (some a) = a.low
+low_end None = pos 0
+low_end (Some a) = a.low
 
 abbrev pub high_end : Option Interval → ℤ
-high_end none = pos 0
-high_end (some a) = a.high
+high_end None = pos 0
+high_end (Some a) = a.high
 
 -- the offset of a slice, else 0
 abbrev pub op_offset : Op → ℕ
@@ -102,9 +102,9 @@ type_back ty.Integer h = refl
 
 pub range_back : (r : Option Interval) → mag (low_end r) < 2 ^ 127 → mag (high_end r) < 2 ^ 127
     → range_of (range_flag r) (range_low r) (range_high r) ≡ r
-range_back none h l = refl
-range_back (some a) h l =
-    λ i. some (record { low = signed-residue 128 a.low (lit< tt) h i; high = signed-residue 128 a.high (lit< tt) l i })
+range_back None h l = refl
+range_back (Some a) h l =
+    λ i. Some (record { low = signed-residue 128 a.low (lit< tt) h i; high = signed-residue 128 a.high (lit< tt) l i })
 
 pub operation_back : (o : Op) → op_offset o < 2 ^ 16 → op_z o < 2 ^ 16 → operation_of (op_code o) (op_x o) (op_y o) (op_z o) ≡ o
 operation_back (constant c) h l = ap constant (pair_back c)

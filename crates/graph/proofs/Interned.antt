@@ -3,7 +3,7 @@ use mathlib.Core.Path.{◌≡◌, refl, sym, ap, ◌∙◌}
 use mathlib.Core.Logic.{⊎_elim, ◌↔◌}
 use mathlib.Core.Bool.{Bool, true, false, cond}
 use mathlib.Core.List.{List, [], ◌∷◌}
-use mathlib.Core.Option.{Option, none, some}
+use Rattle.std.specs.Prelude.{Option, None, Some}
 use Prim.Native.Nat.{ℕ, zero, suc, ◌+◌, ◌≤◌, ◌<◌}
 use native.Mathlib.Nat.{eq-or-lt_of_le, add-zero}
 use native.Mathlib.Omega.{arith}
@@ -25,23 +25,23 @@ First p i j n = (i ≤ n) × (n < j) × (p n ≡ true) × ((m : ℕ) → i ≤ m
 
 module _ (p : ℕ → Bool) where
   -- what is found is the first that passes
-  pub lowest-some : (i k n : ℕ) → lowest p i k ≡ some n → First p i (i + k) n
+  pub lowest-some : (i k n : ℕ) → lowest p i k ≡ Some n → First p i (i + k) n
   lowest-some i zero n e = let z : ◌≡◌ {A = ℕ} 0 1 = cc in absurd (omega arith)
   lowest-some i (suc k) n e = by (p i) refl (lowest-some (suc i) k n) e
     where
-      by : (t : Bool) → p i ≡ t → (lowest p (suc i) k ≡ some n → First p (suc i) (suc i + k) n)
-          → cond t (some i) (lowest p (suc i) k) ≡ some n → First p i (i + suc k) n
+      by : (t : Bool) → p i ≡ t → (lowest p (suc i) k ≡ Some n → First p (suc i) (suc i + k) n)
+          → cond t (Some i) (lowest p (suc i) k) ≡ Some n → First p i (i + suc k) n
       by true t later e = let d : i ≡ n = cc in (omega arith, omega arith, ap p (sym d) ∙ t, λ m a b. absurd (omega arith))
       by false t later e =
           let r = later e in
           (omega arith, omega arith, r.2, λ m a b. ⊎_elim (λ d. ap p (sym d) ∙ t) (λ l. r.3 m l b) (eq-or-lt_of_le a))
 
   -- where nothing is found, none passes
-  pub lowest-none : (i k : ℕ) → lowest p i k ≡ none → (m : ℕ) → i ≤ m → m < i + k → p m ≡ false
+  pub lowest-none : (i k : ℕ) → lowest p i k ≡ None → (m : ℕ) → i ≤ m → m < i + k → p m ≡ false
   lowest-none i zero e m a b = absurd (omega arith)
   lowest-none i (suc k) e m a b = by (p i) refl (λ f l. lowest-none (suc i) k f m l (omega arith)) e
     where
-      by : (t : Bool) → p i ≡ t → (lowest p (suc i) k ≡ none → i < m → p m ≡ false) → cond t (some i) (lowest p (suc i) k) ≡ none → p m ≡ false
+      by : (t : Bool) → p i ≡ t → (lowest p (suc i) k ≡ None → i < m → p m ≡ false) → cond t (Some i) (lowest p (suc i) k) ≡ None → p m ≡ false
       by true t later e = let z : ◌≡◌ {A = ℕ} 0 1 = cc in absurd (omega arith)
       by false t later e = ⊎_elim (λ d. ap p (sym d) ∙ t) (later e) (eq-or-lt_of_le a)
 
@@ -93,11 +93,11 @@ length-appended g ws l w = by (ltb (count_of g) LIMIT) refl
     by false t = rw (appended_full g ws t) l
 
 module _ (g : List ℕ) (t : ScalarType) (r : Option Interval) (o : Op) where
-  pub inserted-found : (n : ℕ) → interned g o (words_of t r o) ≡ some n → inserted g t r o ≡ made (id (resolve g n)) g
+  pub inserted-found : (n : ℕ) → interned g o (words_of t r o) ≡ Some n → inserted g t r o ≡ made (id (resolve g n)) g
   unfolding inserted
   inserted-found n e = ap (λ (x : Option ℕ). found_or g x (appended g (words_of t r o))) e
 
-  pub inserted_new : interned g o (words_of t r o) ≡ none → inserted g t r o ≡ appended g (words_of t r o)
+  pub inserted_new : interned g o (words_of t r o) ≡ None → inserted g t r o ≡ appended g (words_of t r o)
   unfolding inserted
   inserted_new e = ap (λ (x : Option ℕ). found_or g x (appended g (words_of t r o))) e
 
@@ -107,5 +107,5 @@ module _ (g : List ℕ) (t : ScalarType) (r : Option Interval) (o : Op) where
   length_inserted l = by (interned g o (words_of t r o))
     where
       by : (x : Option ℕ) → length (found_or g x (appended g (words_of t r o))).words ≡ REGION
-      by none = length-appended g (words_of t r o) l (length-words t r o)
-      by (some n) = l
+      by None = length-appended g (words_of t r o) l (length-words t r o)
+      by (Some n) = l

@@ -2,7 +2,7 @@
 use mathlib.Core.Path.{◌≡◌, refl, ◌∙◌}
 use mathlib.Core.Bool.{Bool, true, false}
 use mathlib.Core.List.{List}
-use mathlib.Core.Option.{Option, none, some}
+use Rattle.std.specs.Prelude.{Option, None, Some}
 use Prim.Native.Nat.{ℕ, ◌+◌, ◌<◌, ◌≤◌}
 use native.Mathlib.Omega.{arith}
 use borrow.Author.Tests.{ltb-true}
@@ -49,5 +49,5 @@ unfolding inserted
 inserted_kept n g h t r o k = by (interned h o (words_of t r o))
   where
     by : (x : Option ℕ) → Kept n g (found_or h x (appended h (words_of t r o))).words
-    by none = appended_kept n g h (words_of t r o) (length-words t r o) k
-    by (some m) = k
+    by None = appended_kept n g h (words_of t r o) (length-words t r o) k
+    by (Some m) = k

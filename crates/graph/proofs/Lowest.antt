@@ -2,7 +2,7 @@
 use mathlib.Core.Path.{◌≡◌, refl, sym, ap, subst, ◌∙◌}
 use mathlib.Core.Bool.{true, false≢true}
 use mathlib.Core.List.{List}
-use mathlib.Core.Option.{Option, none, some}
+use Rattle.std.specs.Prelude.{Option, None, Some}
 use Prim.Native.Nat.{ℕ, zero, suc, min, ◌+◌, ◌-◌, ◌/◌, ◌%◌, ◌^◌, ◌<◌}
 use native.Mathlib.Omega.{arith}
 use borrow.Author.Tests.{eqb-true, leb-true, lt-ltb, le-ltb}
@@ -142,8 +142,8 @@ exact_of {g} f w n l = each
 
 -- the lowest node that reads p, if there is one
 abbrev pub Lowest : List ℕ → Parts → Option ℕ → Type 0
-Lowest g p none = (n : ℕ) → n < count_of g → node_at g n ≡ p → ⊥
-Lowest g p (some n) = (n < count_of g) × (node_at g n ≡ p) × ((m : ℕ) → m < n → node_at g m ≡ p → ⊥)
+Lowest g p None = (n : ℕ) → n < count_of g → node_at g n ≡ p → ⊥
+Lowest g p (Some n) = (n < count_of g) × (node_at g n ≡ p) × ((m : ℕ) → m < n → node_at g m ≡ p → ⊥)
 
 -- interning finds the lowest of all nodes with a type, a range and an operation
 pub interned_is_lowest : (g : List ℕ) (t : ScalarType) (r : Option Interval) (o : Op) → is_graph g ≡ true → Words g → Stored t r o
@@ -154,8 +154,8 @@ interned_is_lowest g t r o e w s = by (interned g o (words_of t r o)) refl
     f = graph_facts g e
 
     by : (x : Option ℕ) → interned g o (words_of t r o) ≡ x → Lowest g (record { type = t; range = r; operation = o }) x
-    by none q = new_key g t r o (start_le f) (exact_of f w) f.count q
-    by (some n) q =
+    by None q = new_key g t r o (start_le f) (exact_of f w) f.count q
+    by (Some n) q =
         let d = lowest-some (same_key g (words_of t r o)) (min (start o) LIMIT) (min (count_of g) LIMIT - min (start o) LIMIT) n q in
         let key = (same_key_lem g (words_of t r o) n (length-words t r o)).0 d.2 in
         let below : n < count_of g = omega arith in (

@@ -2,7 +2,7 @@
 use mathlib.Core.Path.{◌≡◌, refl, sym, ap, subst, ◌∙◌}
 use mathlib.Core.Bool.{Bool, true, false, cond, true≢false, false≢true}
 use mathlib.Core.List.{List}
-use mathlib.Core.Option.{none, some}
+use Rattle.std.specs.Prelude.{None, Some}
 use mathlib.Core.Logic.{⊎_elim}
 use Prim.Native.Nat.{ℕ, zero, suc, ◌+◌, ◌-◌, ◌*◌, ◌<◌, ◌≤◌}
 use native.Mathlib.Nat.{add-zero}
@@ -39,7 +39,7 @@ module _ (g : List ℕ) (at : ℕ) (ws : List ℕ) (n j : ℕ) where
 -- ---- the numbers from i to n
 
 module _ (p : ℕ → Bool) (i n : ℕ) where
-  pub lowest_at : i < n → p i ≡ true → lowest p i (n - i) ≡ some i
+  pub lowest_at : i < n → p i ≡ true → lowest p i (n - i) ≡ Some i
   lowest_at h t = let e : n - i ≡ suc (n - (i + 1)) = omega arith in rw (e, t)
 
   pub lowest_on : i < n → p i ≡ false → lowest p i (n - i) ≡ lowest p (i + 1) (n - (i + 1))
@@ -48,7 +48,7 @@ module _ (p : ℕ → Bool) (i n : ℕ) where
       let d : suc i ≡ i + 1 = omega arith in
       rw (e, t) (λ k. lowest p (d k) (n - (i + 1)))
 
-  pub lowest_end : n ≤ i → lowest p i (n - i) ≡ none
+  pub lowest_end : n ≤ i → lowest p i (n - i) ≡ None
   lowest_end h = let e : n - i ≡ 0 = omega arith in rw e
 
   -- also past the end

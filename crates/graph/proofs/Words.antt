@@ -2,7 +2,7 @@
 use mathlib.Core.Path.{◌≡◌, refl, subst}
 use mathlib.Core.Bool.{Bool, true, false, cond, ◌&&◌}
 use mathlib.Core.List.{List, [], ◌∷◌, ◌++◌}
-use mathlib.Core.Option.{Option, none, some}
+use Rattle.std.specs.Prelude.{Option, None, Some}
 use Prim.Native.Nat.{ℕ, zero, suc, ◌+◌, ◌^◌, ◌<◌}
 use native.Mathlib.Nat.{mod-lt}
 use native.Mathlib.Omega.{arith}
@@ -97,8 +97,8 @@ each_words (x ∷ s) e (suc i) = each_words s e.1 i
 
 -- the patterns of a range's ends
 ends_below : (r : Option Interval) → (range_flag r < 2 ^ 64) × (range_low r < 2 ^ 128) × (range_high r < 2 ^ 128)
-ends_below none = (lit< tt, lit< tt, lit< tt)
-ends_below (some a) = (lit< tt, residue-lt 128 a.low, residue-lt 128 a.high)
+ends_below None = (lit< tt, lit< tt, lit< tt)
+ends_below (Some a) = (lit< tt, residue-lt 128 a.low, residue-lt 128 a.high)
 
 -- the code of a type
 type_below : (t : ScalarType) → type_code t < 2 ^ 64
@@ -117,13 +117,13 @@ node-words t r o width code x y z =
 -- ---- what is read
 
 -- the ends of a range are integers of 128 bits
-pub ends_of : (g : List ℕ) → Words g → (n : ℕ) (a : Interval) → range_at g n ≡ some a → (mag a.low < 2 ^ 127) × (mag a.high < 2 ^ 127)
+pub ends_of : (g : List ℕ) → Words g → (n : ℕ) (a : Interval) → range_at g n ≡ Some a → (mag a.low < 2 ^ 127) × (mag a.high < 2 ^ 127)
 ends_of g w n a e = by (eqb (word_at g n RANGE) 0) e
   where
     b : Interval
     b = record { low = signed 128 (pair (word_at g n MIN) (word_at g n (MIN + 1))); high = signed 128 (pair (word_at g n MAX) (word_at g n (MAX + 1))) }
 
-    by : (z : Bool) → cond z none (some b) ≡ some a → (mag a.low < 2 ^ 127) × (mag a.high < 2 ^ 127)
+    by : (z : Bool) → cond z None (Some b) ≡ Some a → (mag a.low < 2 ^ 127) × (mag a.high < 2 ^ 127)
     by true q = absurd (none-some q)
     by false q =
         subst (λ (x : Interval). (mag x.low < 2 ^ 127) × (mag x.high < 2 ^ 127)) (some_is q) (

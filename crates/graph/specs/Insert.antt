@@ -1,6 +1,6 @@
 -- Interning, resolving, and the builders of leaves, on the words of the region.
 use Rattle.std.specs.Prelude.{Bool, true, false, cond, List, [], ◌∷◌, ℕ, zero, suc, min, max, ◌+◌, ◌-◌, eqb, ltb, get_or, set, take}
-use Rattle.std.proofs.Math.Option.{Option, none, some}
+use Rattle.std.specs.Prelude.{Option, None, Some}
 use Rattle.std.proofs.Math.Seq.{paste}
 use Rattle.word.specs.Value.{is_neg, signed}
 use Rattle.word.specs.Option.{or_else}
@@ -43,14 +43,14 @@ made a g = record { answer = a; words = g }
 
 -- the value of an operation that is a constant
 abbrev pub literal_of : Op → Option ℕ
-literal_of (node.constant c) = some c
-literal_of (node.input i) = none
-literal_of (node.refine i) = none
-literal_of (node.effect i) = none
-literal_of (node.slice i o w) = none
-literal_of (node.concat i j w) = none
-literal_of (node.unary u i) = none
-literal_of (node.binary b i j) = none
+literal_of (node.constant c) = Some c
+literal_of (node.input i) = None
+literal_of (node.refine i) = None
+literal_of (node.effect i) = None
+literal_of (node.slice i o w) = None
+literal_of (node.concat i j w) = None
+literal_of (node.unary u i) = None
+literal_of (node.binary b i j) = None
 
 -- the value of a constant
 unfoldable pub literal : List ℕ → ℕ → Option ℕ
@@ -83,13 +83,13 @@ are_apart g first at (suc k) = cond (eqb (get_or g (at + X) 0) first) false (are
 
 -- the lowest of the k numbers from i on that passes a test
 abbrev pub lowest : (ℕ → Bool) → ℕ → ℕ → Option ℕ
-lowest p i zero = none
-lowest p i (suc k) = cond (p i) (some i) (lowest p (suc i) k)
+lowest p i zero = None
+lowest p i (suc k) = cond (p i) (Some i) (lowest p (suc i) k)
 
 -- what a Found stands for
 abbrev pub found_of : Found → Option ℕ
-found_of (found.At n) = some n
-found_of found.Nothing = none
+found_of (found.At n) = Some n
+found_of found.Nothing = None
 
 -- one past an operation's operands: no node with it is lower
 abbrev pub start : Op → ℕ
@@ -114,8 +114,8 @@ appended g ws =
 
 -- a node that was found, or a new one
 abbrev pub found_or : List ℕ → Option ℕ → Made → Made
-found_or g none m = m
-found_or g (some n) m = made (id (resolve g n)) g
+found_or g None m = m
+found_or g (Some n) m = made (id (resolve g n)) g
 
 -- the resolved id of the lowest node with this type, range and operation, or of a new one
 unfoldable pub inserted : List ℕ → ScalarType → Option Interval → Op → Made
@@ -125,9 +125,9 @@ inserted g t r o = found_or g (interned g o (words_of t r o)) (appended g (words
 
 -- a constant's range is itself, but a Bits constant above 2 ^ 127 - 1 has none
 abbrev pub constant_interval : ScalarType → ℕ → Option Interval
-constant_interval ty.Bool v = some (point (signed 128 v))
-constant_interval (ty.Bits w) v = cond (is_neg (signed 128 v)) none (some (point (signed 128 v)))
-constant_interval ty.Integer v = some (point (signed 128 v))
+constant_interval ty.Bool v = Some (point (signed 128 v))
+constant_interval (ty.Bits w) v = cond (is_neg (signed 128 v)) None (Some (point (signed 128 v)))
+constant_interval ty.Integer v = Some (point (signed 128 v))
 
 -- a constant of a type: its value reduced to the type, with its range
 unfoldable pub constant : List ℕ → ScalarType → ℕ → Made

@@ -1,6 +1,6 @@
 -- What the words of a node stand for, and the words of a new node.
 use Rattle.std.specs.Prelude.{cond, List, [], ◌∷◌, ◌++◌, ℕ, ◌+◌, ◌*◌, ◌/◌, ◌%◌, ◌^◌, eqb, ltb}
-use Rattle.std.proofs.Math.Option.{Option, none, some}
+use Rattle.std.specs.Prelude.{Option, None, Some}
 use Rattle.word.specs.Value.{val, residue, signed}
 use Rattle.range.specs.Interval.{Interval, interval_of}
 use Rattle.range.specs.declared.ScalarType.{ScalarType}
@@ -55,7 +55,7 @@ pair low high = high * 2 ^ 64 + low
 
 -- a range by its flag and the patterns of its ends
 abbrev pub range_of : ℕ → ℕ → ℕ → Option Interval
-range_of flag low high = cond (eqb flag 0) none (some (record { low = signed 128 low; high = signed 128 high }))
+range_of flag low high = cond (eqb flag 0) None (Some (record { low = signed 128 low; high = signed 128 high }))
 
 -- the range of node n
 abbrev pub range_at : List ℕ → ℕ → Option Interval
@@ -105,18 +105,18 @@ type_code ty.Integer = INTEGER
 
 -- is there a range? 0 or 1
 abbrev pub range_flag : Option Interval → ℕ
-range_flag none = 0
-range_flag (some a) = 1
+range_flag None = 0
+range_flag (Some a) = 1
 
 -- the pattern of the minimum, 0 without a range
 abbrev pub range_low : Option Interval → ℕ
-range_low none = 0
-range_low (some a) = residue 128 a.low
+range_low None = 0
+range_low (Some a) = residue 128 a.low
 
 -- the pattern of the maximum, 0 without a range
 abbrev pub range_high : Option Interval → ℕ
-range_high none = 0
-range_high (some a) = residue 128 a.high
+range_high None = 0
+range_high (Some a) = residue 128 a.high
 
 -- the code of an operation
 abbrev pub op_code : Op → ℕ

@@ -8,7 +8,7 @@ use crate::Operation;
 use crate::layout::{CONCAT, CONSTANT, EFFECT, INPUT, REFINE, SIZE, SLICE};
 use evaluate::code::{BITS, BOOL, INTEGER};
 use evaluate::type_width;
-use range::{MaybeRange, ScalarType};
+use range::ScalarType;
 use word::Word;
 
 // The fields of an operation: its code and three words.
@@ -38,16 +38,16 @@ fn type_code(ty: ScalarType) -> u64
     }
 }
 
-fn bounds_of(range: MaybeRange) -> Bounds
+fn bounds_of(range: Option<Range>) -> Bounds
     ensures { (result.flag ≡ range_flag (interval_of range)) × (val result.min ≡ range_low (interval_of range)) × (val result.max ≡ range_high (interval_of range)) }
 {
     match range {
-        MaybeRange::None => Bounds {
+        None => Bounds {
             flag: 0,
             min: Word { lo: 0, hi: 0 },
             max: Word { lo: 0, hi: 0 },
         },
-        MaybeRange::Some(bounds) => Bounds {
+        Some(bounds) => Bounds {
             flag: 1,
             min: bounds.min.as_word(),
             max: bounds.max.as_word(),
@@ -91,7 +91,7 @@ fn make_fields(code: u64, x: u64, y: u64, z: u64) -> Fields
 }
 
 // The words of a node without an alias.
-pub fn words_of(ty: ScalarType, range: MaybeRange, operation: Operation) -> [u64; SIZE]
+pub fn words_of(ty: ScalarType, range: Option<Range>, operation: Operation) -> [u64; SIZE]
     ensures { result ≡ words_of ty (interval_of range) (op_of operation) }
 {
     let bounds = bounds_of(range);

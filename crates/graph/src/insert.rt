@@ -10,7 +10,7 @@ use crate::encode::words_of;
 use crate::layout::{FIRST, KEY, LIMIT, OPERATION, SIZE, WORDS, X, Y, count};
 use crate::read::resolve;
 use crate::{Built, Found, NodeId, Operation};
-use range::{MaybeRange, ScalarType};
+use range::ScalarType;
 
 // Are the words from `at` on the node's key, one by one?
 fn same_words(g: &[u64], at: usize, words: &[u64; SIZE]) -> bool
@@ -181,7 +181,7 @@ fn past(a: u64, b: u64) -> u64
 }
 
 // The resolved id of the lowest node with this type, range and operation, or of a new one.
-pub fn insert(g: &mut [u64], ty: ScalarType, range: MaybeRange, operation: Operation) -> Built
+pub fn insert(g: &mut [u64], ty: ScalarType, range: Option<Range>, operation: Operation) -> Built
     requires { length g.old ≡ REGION }
     ensures { made (built_of result) g.new ≡ inserted g.old ty (interval_of range) (op_of operation) }
 {

@@ -9,24 +9,24 @@ use crate::insert::insert;
 use crate::{Built, EffectId, InputId, Operation};
 use evaluate::pattern::reduced;
 use range::typed::type_range;
-use range::{MaybeRange, Range, ScalarType};
+use range::{Range, ScalarType};
 use word::Word;
 
 // The range of a constant: itself, but none for Bits above 2^127 - 1.
-fn constant_range(ty: ScalarType, value: Word) -> MaybeRange
+fn constant_range(ty: ScalarType, value: Word) -> Option<Range>
     ensures { interval_of result ≡ constant_interval ty (val value) }
 {
     let signed = value.as_signed();
     match ty {
-        ScalarType::Bool => MaybeRange::Some(Range::singleton(signed)),
+        ScalarType::Bool => Some(Range::singleton(signed)),
         ScalarType::Bits(_) => {
             if signed.is_negative() {
-                MaybeRange::None
+                None
             } else {
-                MaybeRange::Some(Range::singleton(signed))
+                Some(Range::singleton(signed))
             }
         }
-        ScalarType::Integer => MaybeRange::Some(Range::singleton(signed)),
+        ScalarType::Integer => Some(Range::singleton(signed)),
     }
 }
 
@@ -39,13 +39,13 @@ pub fn constant(g: &mut [u64], ty: ScalarType, value: Word) -> Built
     insert(g, ty, range, Operation::Constant(low))
 }
 
-pub fn input(g: &mut [u64], id: InputId, ty: ScalarType, range: MaybeRange) -> Built
+pub fn input(g: &mut [u64], id: InputId, ty: ScalarType, range: Option<Range>) -> Built
     requires { length g.old ≡ REGION }
     ensures { made (built_of result) g.new ≡ input g.old id.0 ty (interval_of range) }
 {
     match range {
-        MaybeRange::Some(given) => insert(g, ty, MaybeRange::Some(given), Operation::Input(id)),
-        MaybeRange::None => {
+        Some(given) => insert(g, ty, Some(given), Operation::Input(id)),
+        None => {
             let whole = type_range(ty);
             insert(g, ty, whole, Operation::Input(id))
         }

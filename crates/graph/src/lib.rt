@@ -11,7 +11,7 @@ pub mod read;
 pub mod well_formed;
 
 use evaluate::{Binary, Unary};
-use range::{MaybeRange, ScalarType};
+use range::ScalarType;
 use word::Word;
 
 #[derive(Clone, Copy)]
@@ -48,7 +48,7 @@ pub enum Operation {
 #[derive(Clone, Copy)]
 pub struct Node {
     pub ty: ScalarType,
-    pub range: MaybeRange,
+    pub range: Option<Range>,
     pub operation: Operation,
 }
 

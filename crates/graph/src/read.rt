@@ -12,8 +12,8 @@ use crate::layout::{
 };
 use crate::{EffectId, InputId, Node, NodeId, Operation};
 use evaluate::code::{BINARY, BITS, BOOL, binary_of, unary_of};
-use range::{MaybeRange, Range, ScalarType};
-use word::{MaybeWord, Word};
+use range::{Range, ScalarType};
+use word::Word;
 
 // A width or an offset in a word.
 fn narrow(word: u64) -> u16
@@ -32,13 +32,13 @@ pub(crate) fn type_of(code: u64, width: u64) -> ScalarType
     }
 }
 
-fn range_of(flag: u64, min: Word, max: Word) -> MaybeRange
+fn range_of(flag: u64, min: Word, max: Word) -> Option<Range>
     ensures { interval_of result ≡ range_of flag (val min) (val max) }
 {
     if flag == 0 {
-        return MaybeRange::None;
+        return None;
     }
-    MaybeRange::Some(Range {
+    Some(Range {
         min: min.as_signed(),
         max: max.as_signed(),
     })
@@ -81,7 +81,7 @@ pub fn type_at(g: &[u64], id: NodeId) -> ScalarType
     type_of(word_at(g, n, TYPE), word_at(g, n, WIDTH))
 }
 
-pub fn range_at(g: &[u64], id: NodeId) -> MaybeRange
+pub fn range_at(g: &[u64], id: NodeId) -> Option<Range>
     requires { length g.now ≡ REGION }
     ensures { interval_of result ≡ range_at g.now id.0 }
 {
@@ -125,18 +125,18 @@ pub fn node_at(g: &[u64], id: NodeId) -> Node
 }
 
 // The value of a constant.
-pub fn literal(g: &[u64], id: NodeId) -> MaybeWord
+pub fn literal(g: &[u64], id: NodeId) -> Option<Word>
     requires { length g.now ≡ REGION }
     ensures { number_of result ≡ literal g.now id.0 }
 {
     let n = id.0;
     if word_at(g, n, OPERATION) == CONSTANT {
-        MaybeWord::Some(Word {
+        Some(Word {
             lo: word_at(g, n, X),
             hi: word_at(g, n, Y),
         })
     } else {
-        MaybeWord::None
+        None
     }
 }
 

@@ -1,6 +1,6 @@
 -- A condition as guards read it: the BoolNots before it taken off, and the comparison that it is.
 use Rattle.std.specs.Prelude.{Bool, not, List, ℕ, zero, suc, eqb}
-use Rattle.std.proofs.Math.Option.{Option, none, some}
+use Rattle.std.specs.Prelude.{Option, None, Some}
 use Rattle.word.specs.Option.{only, given}
 use Rattle.evaluate.specs.Operator.{unary_code}
 use Rattle.evaluate.specs.declared.Unary.TheVariants as un
@@ -12,8 +12,6 @@ use Rattle.fold.specs.Operator.{comparisons}
 use Rattle.fold.specs.Shape.{is_any}
 use Rattle.guard.specs.declared.Condition as declared-condition
 use Rattle.guard.specs.declared.Comparison as declared-comparison
-use Rattle.guard.specs.declared.MaybeComparison as declared
-use Rattle.guard.specs.declared.MaybeComparison.TheVariants as comparison
 
 -- a node, and what is expected of it
 pub record Condition : Type 0 where
@@ -26,14 +24,14 @@ condition_of c = record { node = c.node.0; expected = c.expected }
 
 -- the operand of a BoolNot
 abbrev pub negated_of : Op → Option ℕ
-negated_of (node.constant c) = none
-negated_of (node.input i) = none
-negated_of (node.refine i) = none
-negated_of (node.effect i) = none
-negated_of (node.slice i o w) = none
-negated_of (node.concat i j w) = none
+negated_of (node.constant c) = None
+negated_of (node.input i) = None
+negated_of (node.refine i) = None
+negated_of (node.effect i) = None
+negated_of (node.slice i o w) = None
+negated_of (node.concat i j w) = None
 negated_of (node.unary u i) = only (eqb (unary_code u) (unary_code un.BoolNot)) i
-negated_of (node.binary o i j) = none
+negated_of (node.binary o i j) = None
 
 -- the operand of node n, if it is a BoolNot
 unfoldable pub negated_at : List ℕ → ℕ → Option ℕ
@@ -58,20 +56,20 @@ pub record Comparison : Type 0 where
 abbrev pub one_comparison_of : declared-comparison.Comparison → Comparison
 one_comparison_of c = record { op = c.op; left = c.left.0; right = c.right.0 }
 
--- what a MaybeComparison stands for
-abbrev pub comparison_of : declared.MaybeComparison → Option Comparison
-comparison_of (comparison.Some c) = some (one_comparison_of c)
-comparison_of comparison.None = none
+-- what a Option Comparison stands for
+abbrev pub comparison_of : Option declared-comparison.Comparison → Option Comparison
+comparison_of (Some c) = Some (one_comparison_of c)
+comparison_of None = None
 
 -- an operation that is a comparison
 abbrev pub compared_by : Op → Option Comparison
-compared_by (node.constant c) = none
-compared_by (node.input i) = none
-compared_by (node.refine i) = none
-compared_by (node.effect i) = none
-compared_by (node.slice i o w) = none
-compared_by (node.concat i j w) = none
-compared_by (node.unary u i) = none
+compared_by (node.constant c) = None
+compared_by (node.input i) = None
+compared_by (node.refine i) = None
+compared_by (node.effect i) = None
+compared_by (node.slice i o w) = None
+compared_by (node.concat i j w) = None
+compared_by (node.unary u i) = None
 compared_by (node.binary o i j) = only (is_any comparisons o) (record { op = o; left = i; right = j })
 
 -- node n, if it is a comparison

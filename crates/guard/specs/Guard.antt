@@ -1,6 +1,6 @@
 -- A guard: a comparison of two nodes with what is expected of it, and whether two values match it (linear.rs 12 to 71).
 use Rattle.std.specs.Prelude.{Bool, cond, not, ◌&&◌, List, ℕ, ◌%◌, ◌^◌, eqb, ltb, leb}
-use Rattle.std.proofs.Math.Option.{Option, none, some}
+use Rattle.std.specs.Prelude.{Option, None, Some}
 use Rattle.word.specs.Option.{only, provided, mapped}
 use Rattle.range.specs.declared.ScalarType.TheVariants as ty
 use Rattle.evaluate.specs.Evaluate.{binary_value}
@@ -10,8 +10,6 @@ use Rattle.graph.specs.Node.{range_at}
 use Rattle.fold.specs.Operator.{comparisons}
 use Rattle.fold.specs.Shape.{same_binary, is_any, fits}
 use Rattle.guard.specs.declared.Guard as declared-guard
-use Rattle.guard.specs.declared.MaybeGuard as declared
-use Rattle.guard.specs.declared.MaybeGuard.TheVariants as guards
 use Rattle.guard.specs.declared.Matched as declared-matched
 use Rattle.guard.specs.declared.Matched.TheVariants as matches
 use Rattle.guard.specs.Condition.{behind_nots, Comparison, comparison_at}
@@ -30,10 +28,10 @@ pub record Guard : Type 0 where
 abbrev pub one_guard_of : declared-guard.Guard → Guard
 one_guard_of q = record { op = q.operation; left = q.left.0; right = q.right.0; expected = q.expected; host64 = q.host64 }
 
--- what a MaybeGuard stands for
-abbrev pub guard_of : declared.MaybeGuard → Option Guard
-guard_of (guards.Some q) = some (one_guard_of q)
-guard_of guards.None = none
+-- what a Option Guard stands for
+abbrev pub guard_of : Option declared-guard.Guard → Option Guard
+guard_of (Some q) = Some (one_guard_of q)
+guard_of None = None
 
 -- ---- from a condition to a guard
 
@@ -63,9 +61,9 @@ same_bool a b = cond a b (not b)
 -- two 64-bit words compared, by an operator that is not signed
 abbrev pub host_compared : Binary → ℕ → ℕ → Option Bool
 host_compared o a b =
-    cond (same_binary o bi.Equal) (some (eqb a b))
-    (cond (same_binary o bi.NotEqual) (some (not (eqb a b)))
-    (cond (same_binary o bi.LessUnsigned) (some (ltb a b)) (only (same_binary o bi.LessEqualUnsigned) (leb a b))))
+    cond (same_binary o bi.Equal) (Some (eqb a b))
+    (cond (same_binary o bi.NotEqual) (Some (not (eqb a b)))
+    (cond (same_binary o bi.LessUnsigned) (Some (ltb a b)) (only (same_binary o bi.LessEqualUnsigned) (leb a b))))
 
 -- two patterns compared, by any comparison
 abbrev pub wide_compared : Binary → ℕ → ℕ → Option Bool
@@ -91,8 +89,8 @@ match_of (matches.Refused r) = refused r
 
 -- no answer is a no to question 4
 abbrev pub answered : Option Bool → Match
-answered none = refused refusal.Typing
-answered (some b) = is b
+answered None = refused refusal.Typing
+answered (Some b) = is b
 
 -- the call matches
 unfoldable pub matches_call : Guard → ℕ → ℕ → Match

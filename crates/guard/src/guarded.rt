@@ -5,7 +5,7 @@ ghost use Rattle.guard.specs.Condition.{one_comparison_of};
 ghost use Rattle.guard.specs.Guard.{unsigned_for, one_guard_of, guard_by, fit_host, guard_of, guarded};
 
 use crate::reading::{behind_nots, comparison_at};
-use crate::{Comparison, Guard, MaybeComparison, MaybeGuard};
+use crate::{Comparison, Guard};
 use evaluate::Binary;
 use fold::operator::same_binary;
 use fold::shape::fits;
@@ -53,7 +53,7 @@ fn guard_by(comparison: Comparison, expected: bool, host: bool) -> Guard
 }
 
 // The guard of a condition, if there is a comparison behind its BoolNots.
-pub fn guarded(g: &[u64], condition: NodeId, expected: bool) -> MaybeGuard
+pub fn guarded(g: &[u64], condition: NodeId, expected: bool) -> Option<Guard>
     requires { length g.now ≡ REGION }
     ensures { guard_of result ≡ guarded g.now condition.0 expected }
 {
@@ -61,11 +61,11 @@ pub fn guarded(g: &[u64], condition: NodeId, expected: bool) -> MaybeGuard
     let node = behind.node;
     let found = comparison_at(g, node);
     match found {
-        MaybeComparison::Some(comparison) => MaybeGuard::Some(guard_by(
+        Some(comparison) => Some(guard_by(
             comparison,
             behind.expected,
             fit_host(g, comparison),
         )),
-        MaybeComparison::None => MaybeGuard::None,
+        None => None,
     }
 }

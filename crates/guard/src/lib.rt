@@ -24,12 +24,6 @@ pub struct Comparison {
     pub right: NodeId,
 }
 
-#[derive(Clone, Copy)]
-pub enum MaybeComparison {
-    Some(Comparison),
-    None,
-}
-
 // A comparison of two nodes, what is expected of it, and whether 64 bits of each value suffice.
 #[derive(Clone, Copy)]
 pub struct Guard {
@@ -38,12 +32,6 @@ pub struct Guard {
     pub right: NodeId,
     pub expected: bool,
     pub host64: bool,
-}
-
-#[derive(Clone, Copy)]
-pub enum MaybeGuard {
-    Some(Guard),
-    None,
 }
 
 // Do two values match a guard? Or a refusal.

@@ -1,48 +1,46 @@
 // Do two values match a guard (linear.rs 52 to 71)?
 ghost use Rattle.std.specs.Prelude.{◌≡◌};
 ghost use Rattle.word.specs.Value.{val};
-ghost use Rattle.fold.specs.Range.{truth_of};
 ghost use Rattle.guard.specs.Guard.{one_guard_of, same_bool, host_compared, wide_compared, compared, match_of, matches_call};
 
 use crate::{Guard, Matched};
 use answer::Refusal;
 use evaluate::Binary;
 use evaluate::two_operands::binary_value;
-use fold::MaybeBool;
 use fold::operator::{is_comparison, same_binary};
 use range::ScalarType;
-use word::{MaybeWord, Word};
+use word::Word;
 
 // Two 64-bit words compared, by an operator that is not signed.
-fn host_compared(op: Binary, left: u64, right: u64) -> MaybeBool
-    ensures { truth_of result ≡ host_compared op left right }
+fn host_compared(op: Binary, left: u64, right: u64) -> Option<bool>
+    ensures { result ≡ host_compared op left right }
 {
     if same_binary(op, Binary::Equal) {
-        return MaybeBool::Some(left == right);
+        return Some(left == right);
     }
     if same_binary(op, Binary::NotEqual) {
-        return MaybeBool::Some(left != right);
+        return Some(left != right);
     }
     if same_binary(op, Binary::LessUnsigned) {
-        return MaybeBool::Some(left < right);
+        return Some(left < right);
     }
     if same_binary(op, Binary::LessEqualUnsigned) {
-        return MaybeBool::Some(left <= right);
+        return Some(left <= right);
     }
-    MaybeBool::None
+    None
 }
 
 // Two patterns compared, by any comparison.
-fn wide_compared(op: Binary, left: Word, right: Word) -> MaybeBool
-    ensures { truth_of result ≡ wide_compared op (val left) (val right) }
+fn wide_compared(op: Binary, left: Word, right: Word) -> Option<bool>
+    ensures { result ≡ wide_compared op (val left) (val right) }
 {
     if !is_comparison(op) {
-        return MaybeBool::None;
+        return None;
     }
     let value = binary_value(op, ScalarType::Bool, left, right);
     match value {
-        MaybeWord::Some(found) => MaybeBool::Some(!found.is_zero()),
-        MaybeWord::None => MaybeBool::None,
+        Some(found) => Some(!found.is_zero()),
+        None => None,
     }
 }
 
@@ -54,8 +52,8 @@ fn same_bool(a: bool, b: bool) -> bool
 
 impl Guard {
     // What the comparison says of two values; none for an operator that it does not take.
-    fn compared(self, left: Word, right: Word) -> MaybeBool
-        ensures { truth_of result ≡ compared (one_guard_of self) (val left) (val right) }
+    fn compared(self, left: Word, right: Word) -> Option<bool>
+        ensures { result ≡ compared (one_guard_of self) (val left) (val right) }
     {
         let op = self.operation;
         if self.host64 {
@@ -71,8 +69,8 @@ impl Guard {
     {
         let value = self.compared(left, right);
         match value {
-            MaybeBool::Some(found) => Matched::Is(same_bool(self.expected, found)),
-            MaybeBool::None => Matched::Refused(Refusal::Typing),
+            Some(found) => Matched::Is(same_bool(self.expected, found)),
+            None => Matched::Refused(Refusal::Typing),
         }
     }
 }

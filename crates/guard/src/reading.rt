@@ -5,45 +5,44 @@ ghost use Rattle.graph.specs.Node.{op_of};
 ghost use Rattle.fold.specs.Shape.{id_of};
 ghost use Rattle.guard.specs.Condition.{condition_of, negated_of, negated_at, behind_nots, comparison_of, compared_by, comparison_at};
 
-use crate::{Comparison, Condition, MaybeComparison};
+use crate::{Comparison, Condition};
 use evaluate::Unary;
-use fold::MaybeId;
 use fold::operator::is_comparison;
 use graph::layout::LIMIT;
 use graph::read::operation_at;
 use graph::{NodeId, Operation};
 
-fn negated_of(operation: Operation) -> MaybeId
+fn negated_of(operation: Operation) -> Option<NodeId>
     ensures { id_of result ≡ negated_of (op_of operation) }
 {
     match operation {
-        Operation::Constant(_) => MaybeId::None,
-        Operation::Input(_) => MaybeId::None,
-        Operation::Refine(_) => MaybeId::None,
-        Operation::Effect(_) => MaybeId::None,
+        Operation::Constant(_) => None,
+        Operation::Input(_) => None,
+        Operation::Refine(_) => None,
+        Operation::Effect(_) => None,
         Operation::Slice {
             value: _,
             offset: _,
             width: _,
-        } => MaybeId::None,
+        } => None,
         Operation::Concat {
             high: _,
             low: _,
             low_width: _,
-        } => MaybeId::None,
+        } => None,
         Operation::Unary(op, value) => {
             if op.code() == Unary::BoolNot.code() {
-                MaybeId::Some(value)
+                Some(value)
             } else {
-                MaybeId::None
+                None
             }
         }
-        Operation::Binary(_, _, _) => MaybeId::None,
+        Operation::Binary(_, _, _) => None,
     }
 }
 
 // The operand of the node, if it is a BoolNot.
-fn negated_at(g: &[u64], id: NodeId) -> MaybeId
+fn negated_at(g: &[u64], id: NodeId) -> Option<NodeId>
     requires { length g.now ≡ REGION }
     ensures { id_of result ≡ negated_at g.now id.0 }
 {
@@ -60,7 +59,7 @@ pub fn behind_nots(g: &[u64], id: NodeId, expected: bool) -> Condition
     let mut left = LIMIT;
     while 0 < left {
         let operand = negated_at(g, NodeId(at));
-        let MaybeId::Some(value) = operand else {
+        let Some(value) = operand else {
             return Condition {
                 node: NodeId(at),
                 expected: wanted,
@@ -76,41 +75,41 @@ pub fn behind_nots(g: &[u64], id: NodeId, expected: bool) -> Condition
     }
 }
 
-fn compared_by(operation: Operation) -> MaybeComparison
+fn compared_by(operation: Operation) -> Option<Comparison>
     ensures { comparison_of result ≡ compared_by (op_of operation) }
 {
     match operation {
-        Operation::Constant(_) => MaybeComparison::None,
-        Operation::Input(_) => MaybeComparison::None,
-        Operation::Refine(_) => MaybeComparison::None,
-        Operation::Effect(_) => MaybeComparison::None,
+        Operation::Constant(_) => None,
+        Operation::Input(_) => None,
+        Operation::Refine(_) => None,
+        Operation::Effect(_) => None,
         Operation::Slice {
             value: _,
             offset: _,
             width: _,
-        } => MaybeComparison::None,
+        } => None,
         Operation::Concat {
             high: _,
             low: _,
             low_width: _,
-        } => MaybeComparison::None,
-        Operation::Unary(_, _) => MaybeComparison::None,
+        } => None,
+        Operation::Unary(_, _) => None,
         Operation::Binary(op, left, right) => {
             if is_comparison(op) {
-                MaybeComparison::Some(Comparison {
+                Some(Comparison {
                     op: op,
                     left: left,
                     right: right,
                 })
             } else {
-                MaybeComparison::None
+                None
             }
         }
     }
 }
 
 // The node, if it is a comparison.
-pub fn comparison_at(g: &[u64], id: NodeId) -> MaybeComparison
+pub fn comparison_at(g: &[u64], id: NodeId) -> Option<Comparison>
     requires { length g.now ≡ REGION }
     ensures { comparison_of result ≡ comparison_at g.now id.0 }
 {

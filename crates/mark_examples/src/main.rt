@@ -9,7 +9,7 @@ use mark::layout::MARKS;
 use mark::retain_nodes::retain;
 use mark::{MarkId, calls};
 use native::{Answer, by_name, reading};
-use range::{MaybeRange, ScalarType};
+use range::ScalarType;
 use std::io::{Stdout, Write};
 use word::Word;
 
@@ -56,7 +56,7 @@ fn begin(stdout: Stdout, g: &mut [u64]) {
     let five = Word { lo: 5, hi: 0 };
     say(
         stdout,
-        letter(by_name::input(g, InputId(0), bits, MaybeRange::None)),
+        letter(by_name::input(g, InputId(0), bits, None)),
     );
     say(stdout, letter(by_name::constant(g, bits, five)));
     say(stdout, letter(is_below(g)));

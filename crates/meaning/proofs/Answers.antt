@@ -3,7 +3,7 @@ use mathlib.Core.Path.{◌≡◌, refl, sym, ap, ◌∙◌, subst}
 use mathlib.Core.Bool.{Bool, true, false, cond, not, ◌||◌, false≢true}
 use mathlib.Core.List.{List, [], ◌∷◌}
 use mathlib.Core.Logic.{⊎_elim}
-use mathlib.Core.Option.{Option, none, some}
+use Rattle.std.specs.Prelude.{Option, None, Some}
 use Rattle.word.specs.Option.{provided, mapped, given, both_given, or_else, is_some}
 use borrow.Author.Tests.{eqb-true}
 use Rattle.range.specs.Interval.{Interval}
@@ -18,19 +18,19 @@ use Rattle.evaluate.proofs.Codes.{binary_back, all, by_binaries}
 -- ---- an answer that is there
 
 module _ {A B : Type 0} where
-  pub given_is : (o : Option A) (f : A → Option B) {b : B} → given o f none ≡ some b → (a : A) × (o ≡ some a) × (f a ≡ some b)
-  given_is none f e = absurd (none-some e)
-  given_is (some a) f e = (a, refl, e)
+  pub given_is : (o : Option A) (f : A → Option B) {b : B} → given o f None ≡ Some b → (a : A) × (o ≡ Some a) × (f a ≡ Some b)
+  given_is None f e = absurd (none-some e)
+  given_is (Some a) f e = (a, refl, e)
 
-  pub mapped_is : (f : A → B) (o : Option A) {b : B} → mapped f o ≡ some b → (a : A) × (o ≡ some a) × (f a ≡ b)
-  mapped_is f none e = absurd (none-some e)
-  mapped_is f (some a) e = (a, refl, some_is e)
+  pub mapped_is : (f : A → B) (o : Option A) {b : B} → mapped f o ≡ Some b → (a : A) × (o ≡ Some a) × (f a ≡ b)
+  mapped_is f None e = absurd (none-some e)
+  mapped_is f (Some a) e = (a, refl, some_is e)
 
-  pub both_given_lem : {C : Type 0} (f : A → B → Option C) (o : Option A) (p : Option B) {c : C} → both_given o p f ≡ some c
-      → (a : A) × (b : B) × (o ≡ some a) × (p ≡ some b) × (f a b ≡ some c)
-  both_given_lem f none p e = absurd (none-some e)
-  both_given_lem f (some a) none e = absurd (none-some e)
-  both_given_lem f (some a) (some b) e = (a, b, refl, refl, e)
+  pub both_given_lem : {C : Type 0} (f : A → B → Option C) (o : Option A) (p : Option B) {c : C} → both_given o p f ≡ Some c
+      → (a : A) × (b : B) × (o ≡ Some a) × (p ≡ Some b) × (f a b ≡ Some c)
+  both_given_lem f None p e = absurd (none-some e)
+  both_given_lem f (Some a) None e = absurd (none-some e)
+  both_given_lem f (Some a) (Some b) e = (a, b, refl, refl, e)
 
 -- ---- whichever way it goes
 
@@ -39,30 +39,30 @@ module _ {A : Type 0} where
   by_test P true f h = f refl
   by_test P false f h = h refl
 
-  pub by_provided : (P : Option A → Type 0) (b : Bool) {o : Option A} → (b ≡ true → P o) → P none → P (provided b o)
+  pub by_provided : (P : Option A → Type 0) (b : Bool) {o : Option A} → (b ≡ true → P o) → P None → P (provided b o)
   by_provided P true f h = f refl
   by_provided P false f h = h
 
-pub by_given : {A B : Type 0} (P : B → Type 0) (o : Option A) {f : A → B} {b : B} → ((a : A) → o ≡ some a → P (f a)) → (o ≡ none → P b) → P (given o f b)
-by_given P none h k = k refl
-by_given P (some a) h k = h a refl
+pub by_given : {A B : Type 0} (P : B → Type 0) (o : Option A) {f : A → B} {b : B} → ((a : A) → o ≡ Some a → P (f a)) → (o ≡ None → P b) → P (given o f b)
+by_given P None h k = k refl
+by_given P (Some a) h k = h a refl
 
 -- ---- what holds of an answer, if there is one
 
 abbrev pub Each : {A : Type 0} → (A → Type 0) → Option A → Type 0
-Each {A} P o = (a : A) → o ≡ some a → P a
+Each {A} P o = (a : A) → o ≡ Some a → P a
 
 module _ {A : Type 0} (P : A → Type 0) where
-  pub each_none : Each P none
+  pub each_none : Each P None
   each_none a e = absurd (none-some e)
 
-  pub each_some : (b : A) → P b → Each P (some b)
+  pub each_some : (b : A) → P b → Each P (Some b)
   each_some b h a e = subst P (some_is e) h
 
   pub each_provided : (t : Bool) {o : Option A} → (t ≡ true → Each P o) → Each P (provided t o)
   each_provided t h = by_provided (Each P) t h each_none
 
-  pub each_given : {B : Type 0} (o : Option B) {f : B → Option A} → ((b : B) → o ≡ some b → Each P (f b)) → Each P (given o f none)
+  pub each_given : {B : Type 0} (o : Option B) {f : B → Option A} → ((b : B) → o ≡ Some b → Each P (f b)) → Each P (given o f None)
   each_given o h = by_given (Each P) o h (λ e. each_none)
 
   pub each_mapped : {B : Type 0} (f : B → A) (o : Option B) → Each (λ b. P (f b)) o → Each P (mapped f o)
@@ -70,13 +70,13 @@ module _ {A : Type 0} (P : A → Type 0) where
 
 -- a plan, or else another
 pub each_or : (P : Plan → Type 0) (a : Option Plan) {b : Option Plan} → Each P a → Each P b → Each P (or_else a b)
-each_or P none f h = h
-each_or P (some p) f h = f
+each_or P None f h = h
+each_or P (Some p) f h = f
 
 -- a range, or else another
 pub each_else : (P : Interval → Type 0) (a : Option Interval) {b : Option Interval} → Each P a → Each P b → Each P (or_else a b)
-each_else P none f h = h
-each_else P (some r) f h = f
+each_else P None f h = h
+each_else P (Some r) f h = f
 
 -- ---- tests of operators
 
@@ -116,5 +116,5 @@ among os f h o e =
 
 -- one with an answer, if no other has one
 pub answering : {A : Type 0} (os : List Binary) (f : Binary → Option A) → all (λ o. is_any os o || not (is_some (f o))) binaries ≡ true → (o : Binary) {a : A}
-    → f o ≡ some a → is_any os o ≡ true
+    → f o ≡ Some a → is_any os o ≡ true
 answering os f h o e = among os (λ o. is_some (f o)) h o (ap is_some e)

@@ -2,7 +2,7 @@
 use mathlib.Core.Path.{◌≡◌, refl, sym, ap, ◌∙◌, subst}
 use mathlib.Core.Bool.{Bool, true, false, not, cond}
 use mathlib.Core.List.{List}
-use mathlib.Core.Option.{Option, none, some}
+use Rattle.std.specs.Prelude.{Option, None, Some}
 use Prim.Native.Nat.{ℕ, zero, suc, ◌+◌, ◌^◌, ◌<◌}
 use native.Mathlib.Decide.{dec_lt}
 use native.Mathlib.Omega.{arith}
@@ -111,7 +111,7 @@ at_most_obey x y a b f g e p = go (lt_z y x) refl e (sym (le-not_less x y refl) 
 -- ---- limits of two patterns compared
 
 -- a test by its number
-truth_is : (s t : Bool) → some (from_bool s) ≡ some (from_bool t) → s ≡ t
+truth_is : (s t : Bool) → Some (from_bool s) ≡ Some (from_bool t) → s ≡ t
 truth_is true true e = refl
 truth_is true false e = let z : ◌≡◌ {A = ℕ} 0 1 = cc in absurd (omega arith)
 truth_is false true e = let z : ◌≡◌ {A = ℕ} 0 1 = cc in absurd (omega arith)
@@ -120,7 +120,7 @@ truth_is false false e = refl
 module _ (x y : ℕ) (a b : Interval) (l : x < 2 ^ 128) (m : y < 2 ^ 128) (f : (signed 128 x) ∈ a) (g : (signed 128 y) ∈ b) where
   -- an operator's comparison is as expected, so that both lie between the limits by the other's range
   abbrev Says : Binary → Type 0
-  Says o = (e : Bool) → binary_value o ty.Bool x y ≡ some (from_bool e) → comparable o a b ≡ true → Obey (signed 128 x) (signed 128 y) (limits_by o e a b)
+  Says o = (e : Bool) → binary_value o ty.Bool x y ≡ Some (from_bool e) → comparable o a b ≡ true → Obey (signed 128 x) (signed 128 y) (limits_by o e a b)
 
   -- whether both are equal is known
   equal_says : (e : Bool) → eqb x y ≡ e → Obey (signed 128 x) (signed 128 y) (cond e (equal_limits a b) (apart_limits a b))
@@ -158,7 +158,7 @@ module _ (x y : ℕ) (a b : Interval) (l : x < 2 ^ 128) (m : y < 2 ^ 128) (f : (
 record Expects (ρ : World) (g : List ℕ) (c : Condition) : Type 0 where
   here : c.node < count_of g
   type : type_at g c.node ≡ ty.Bool
-  means : ρ.IsSure → value ρ g c.node ≡ some (from_bool c.expected)
+  means : ρ.IsSure → value ρ g c.node ≡ Some (from_bool c.expected)
 
 -- the operand of a BoolNot has the other value
 other : (x : ℕ) (e : Bool) → x < 2 → from_bool e ≡ from_bool (eqb x 0) → x ≡ from_bool (not e)
@@ -176,7 +176,7 @@ condition n e = record { node = n; expected = e }
 
 module _ {ρ : World} {g : List ℕ} (i : Inv ρ g) where
   -- one BoolNot
-  negated_expects : (n j : ℕ) (e : Bool) → negated_at g n ≡ some j → Expects ρ g (condition n e) → Expects ρ g (condition j (not e))
+  negated_expects : (n j : ℕ) (e : Bool) → negated_at g n ≡ Some j → Expects ρ g (condition n e) → Expects ρ g (condition j (not e))
   unfolding negated_at unary_value
   negated_expects n j e q c =
       let o = negated_is (operation_at g n) j q in
@@ -189,8 +189,8 @@ module _ {ρ : World} {g : List ℕ} (i : Inv ρ g) where
         means = λ sure.
             let s = then_is (value ρ g j) _ (from_bool e) (means_at ρ g i n c.here (from_bool e) (c.means sure) (node.unary un.BoolNot j) o) in
             let small : s.0 < 2 = subst (λ (t : ScalarType). s.0 < size t) type (value_small i j here s.0 s.1) in
-            let d : valued ty.Bool (from_bool (eqb s.0 0)) ≡ some (from_bool e) = subst (λ (t : ScalarType). valued t (from_bool (eqb s.0 0)) ≡ some (from_bool e)) c.type s.2 in
-            s.1 ∙ ap some (other s.0 e small (typed_is ty.Bool _ (from_bool e) d).0);
+            let d : valued ty.Bool (from_bool (eqb s.0 0)) ≡ Some (from_bool e) = subst (λ (t : ScalarType). valued t (from_bool (eqb s.0 0)) ≡ Some (from_bool e)) c.type s.2 in
+            s.1 ∙ ap Some (other s.0 e small (typed_is ty.Bool _ (from_bool e) d).0);
       }
 
   -- all of them
@@ -215,7 +215,7 @@ module _ {ρ : World} {g : List ℕ} (i : Inv ρ g) where
       go full h k = k
 
   -- node n is the comparison, with the value expected
-  module _ (e : Bool) (n : ℕ) (c : Comparison) (x : Expects ρ g (condition n e)) (q : comparison_at g n ≡ some c) where
+  module _ (e : Bool) (n : ℕ) (c : Comparison) (x : Expects ρ g (condition n e)) (q : comparison_at g n ≡ Some c) where
     -- its operands
     abbrev left : ℕ
     left = resolve g c.left
@@ -236,13 +236,13 @@ module _ {ρ : World} {g : List ℕ} (i : Inv ρ g) where
         let h = x.here in
         (omega arith, omega arith)
 
-    module _ (a b : Interval) (ea : range_at g left ≡ some a) (eb : range_at g right ≡ some b) (t : comparable c.op a b ≡ true) where
+    module _ (a b : Interval) (ea : range_at g left ≡ Some a) (eb : range_at g right ≡ Some b) (t : comparable c.op a b ≡ true) where
       -- the operands have values, which lie between the limits
       record Sides : Type 0 where
         u : ℕ
         v : ℕ
-        is_left : value ρ g left ≡ some u
-        is_right : value ρ g right ≡ some v
+        is_left : value ρ g left ≡ Some u
+        is_right : value ρ g right ≡ Some v
         obey : Obey (integer_of (type_at g left) u) (integer_of (type_at g right) v) (limits_by c.op e a b)
 
       -- a value in a range is read as a pattern of 128 bits
@@ -250,13 +250,13 @@ module _ {ρ : World} {g : List ℕ} (i : Inv ρ g) where
       sides sure =
           let l = resolve_leads ρ g i c.left below.0 in
           let r = resolve_leads ρ g i c.right below.1 in
-          let m = subst (λ (t : ScalarType). binary_means t c.op (value ρ g c.left) (value ρ g c.right) ≡ some (from_bool e)) x.type
+          let m = subst (λ (t : ScalarType). binary_means t c.op (value ρ g c.left) (value ρ g c.right) ≡ Some (from_bool e)) x.type
           (means_at ρ g i n x.here (from_bool e) (x.means sure) (node.binary c.op c.left c.right) is.0) in
           let s = operands ρ g ty.Bool c.op c.left c.right (from_bool e) m in
-          let lu : value ρ g left ≡ some s.x = l.means ∙ s.left in
-          let rv : value ρ g right ≡ some s.y = r.means ∙ s.right in
+          let lu : value ρ g left ≡ Some s.x = l.means ∙ s.left in
+          let rv : value ρ g right ≡ Some s.y = r.means ∙ s.right in
           let k = then_is (binary_value c.op ty.Bool s.x s.y) (of_type ty.Bool) (from_bool e) s.means in
-          let z : binary_value c.op ty.Bool s.x s.y ≡ some (from_bool e) = k.1 ∙ ap some (sym (typed_is ty.Bool k.0 (from_bool e) k.2).0) in
+          let z : binary_value c.op ty.Bool s.x s.y ≡ Some (from_bool e) = k.1 ∙ ap Some (sym (typed_is ty.Bool k.0 (from_bool e) k.2).0) in
           let f = i.ranged left l.here sure s.x lu a ea in
           let h = i.ranged right r.here sure s.y rv b eb in
           let p = read (type_at g left) s.x a f (i.ends left l.here a ea) in
@@ -285,12 +285,12 @@ module _ {ρ : World} {g : List ℕ} (i : Inv ρ g) where
     comparison_kept = go (range_at g left) (range_at g right) refl refl
       where
         go : (r s : Option Interval) → range_at g left ≡ r → range_at g right ≡ s → Kept ρ g (assumed_by g e c.op left right r s).words
-        go none s er es = kept_refl i
-        go (some a) none er es = kept_refl i
-        go (some a) (some b) er es = by_test (λ (p : Assumed). Kept ρ g p.words) (comparable c.op a b) (λ t. sides_kept a b er es t) (λ t. kept_refl i)
+        go None s er es = kept_refl i
+        go (Some a) None er es = kept_refl i
+        go (Some a) (Some b) er es = by_test (λ (p : Assumed). Kept ρ g p.words) (comparable c.op a b) (λ t. sides_kept a b er es t) (λ t. kept_refl i)
 
   -- assuming a guard whose condition has the value expected
-  pub assumed_kept : (n : ℕ) (e : Bool) → n < count_of g → type_at g n ≡ ty.Bool → (ρ.IsSure → value ρ g n ≡ some (from_bool e))
+  pub assumed_kept : (n : ℕ) (e : Bool) → n < count_of g → type_at g n ≡ ty.Bool → (ρ.IsSure → value ρ g n ≡ Some (from_bool e))
       → Kept ρ g (assumed_guard g n e).words
   unfolding assumed_guard behind_nots
   assumed_kept n e l t h =

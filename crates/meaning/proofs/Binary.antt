@@ -3,7 +3,7 @@ use mathlib.Core.Path.{◌≡◌, refl, sym, ap, ◌∙◌, subst}
 use mathlib.Core.Bool.{Bool, true, not, ◌&&◌}
 use mathlib.Core.List.{List}
 use mathlib.Core.Logic.{⊎_elim}
-use mathlib.Core.Option.{Option, none, some}
+use Rattle.std.specs.Prelude.{Option, None, Some}
 use Prim.Native.Nat.{ℕ, ◌^◌, ◌≤◌, ◌<◌}
 use native.Mathlib.Nat.{mod-eq_of_lt}
 use native.Mathlib.Omega.{arith}
@@ -56,7 +56,7 @@ module _ {ρ : World} {g : List ℕ} (i : Inv ρ g) (t : ScalarType) (o : Binary
 
   -- ---- a new node
 
-  store_storable : (a : Option Interval) → binary_range t o (range_at g l) (range_at g r) ≡ some a → Storable ρ g t a (node.binary o l r)
+  store_storable : (a : Option Interval) → binary_range t o (range_at g l) (range_at g r) ≡ Some a → Storable ρ g t a (node.binary o l r)
   store_storable a e =
       let ends = binary-ends o t (range_at g l) (range_at g r) a (i.ends l k.1) (i.ends r k.2) e in
       let wide = k.0 in
@@ -76,19 +76,19 @@ module _ {ρ : World} {g : List ℕ} (i : Inv ρ g) (t : ScalarType) (o : Binary
             stored_within ρ.env t k.0 (ranged_at g) (operand ρ g) a v (node.binary o l r) (k.3, held_at i l k.1 sure, held_at i r k.2 sure) q e;
       }
 
-  store_claim : (a : Option (Option Interval)) → binary_range t o (range_at g l) (range_at g r) ≡ a → (d : Option Plan) → ((p : Plan) → d ≡ some p → Asked p)
+  store_claim : (a : Option (Option Interval)) → binary_range t o (range_at g l) (range_at g r) ≡ a → (d : Option Plan) → ((p : Plan) → d ≡ Some p → Asked p)
       → Asked (store_plan t o l r d a)
-  store_claim none e d h = tt
-  store_claim (some a) e d h = by_given Asked d h (λ n. (refl, store_storable a e, λ sure x q. q))
+  store_claim None e d h = tt
+  store_claim (Some a) e d h = by_given Asked d h (λ n. (refl, store_storable a e, λ sure x q. q))
 
   -- ---- the plan after the masked comparison
 
-  literal_claim : (p : Plan) → literal_plan g t o l r (literal g r) ≡ some p → Asked p
+  literal_claim : (p : Plan) → literal_plan g t o l r (literal g r) ≡ Some p → Asked p
   literal_claim =
       each_given Asked (literal g r)
       (λ c e. each_or Asked (right_plan t o l r c) (right_claim i t o l r k c e) (mask_claim i t o l r k c e))
 
-  decided_claim : (p : Plan) → decided_plan g t o l r ≡ some p → Asked p
+  decided_claim : (p : Plan) → decided_plan g t o l r ≡ Some p → Asked p
   decided_claim =
       each_or Asked (offset_plan g t o l (literal g r)) (offset_claim i t o l r k)
       (each_or Asked (compared_plan o (range_at g l) (range_at g r)) (compared_claim i t o l r k)
@@ -100,18 +100,18 @@ module _ {ρ : World} {g : List ℕ} (i : Inv ρ g) (t : ScalarType) (o : Binary
   binary_plan_claim =
       by_given Asked (decided_plan g t o l r) decided_claim
       (λ n.
-      store_claim (binary_range t o (range_at g l) (range_at g r)) refl (given (literal g r) (sum_plan g t o l) none)
+      store_claim (binary_range t o (range_at g l) (range_at g r)) refl (given (literal g r) (sum_plan g t o l) None)
       (each_given Asked (literal g r) (λ c e. sum_claim i t o l r k c e)))
 
   -- ---- two constants
 
-  constants_claim : (p : Plan) → evaluated t o (literal g l) (literal g r) ≡ some p → Asked p
+  constants_claim : (p : Plan) → evaluated t o (literal g l) (literal g r) ≡ Some p → Asked p
   constants_claim p e = by (literal g l) refl (literal g r) refl e
     where
       -- the constant of an answer, or None
-      answer : (a b : ℕ) → literal g l ≡ some a → literal g r ≡ some b → (v : Option ℕ) → binary_value o t a b ≡ v → Asked (constant_or t v)
-      answer a b p q none d = tt
-      answer a b p q (some v) d =
+      answer : (a b : ℕ) → literal g l ≡ Some a → literal g r ≡ Some b → (v : Option ℕ) → binary_value o t a b ≡ v → Asked (constant_or t v)
+      answer a b p q None d = tt
+      answer a b p q (Some v) d =
           let va = literal-value ρ g i l a k.1 p in
           let vb = literal-value ρ g i r b k.2 q in
           let small = binary_small o (type_at g l) (type_at g r) t a b v k.3 k.0 (value_small i l k.1 a va) (value_small i r k.2 b vb) d in
@@ -119,15 +119,15 @@ module _ {ρ : World} {g : List ℕ} (i : Inv ρ g) (t : ScalarType) (o : Binary
             refl,
             record { width = k.0; small = subst (λ (n : ℕ). n < size t) (sym same) small },
             λ sure x e.
-                let w : binary_means t o (value ρ g l) (value ρ g r) ≡ some v
+                let w : binary_means t o (value ρ g l) (value ρ g r) ≡ Some v
                 = (λ j. binary_means t o (va j) (vb j)) ∙ ap (λ (c : Option ℕ). and_then c (of_type t)) d ∙ typed_of t v small in
-                ap some same ∙ sym w ∙ e,
+                ap Some same ∙ sym w ∙ e,
           )
 
-      by : (a : Option ℕ) → literal g l ≡ a → (b : Option ℕ) → literal g r ≡ b → evaluated t o a b ≡ some p → Asked p
-      by none pa b pb e = absurd (none-some e)
-      by (some a) pa none pb e = absurd (none-some e)
-      by (some a) pa (some b) pb e = subst Asked (some_is e) (answer a b pa pb (binary_value o t a b) refl)
+      by : (a : Option ℕ) → literal g l ≡ a → (b : Option ℕ) → literal g r ≡ b → evaluated t o a b ≡ Some p → Asked p
+      by None pa b pb e = absurd (none-some e)
+      by (Some a) pa None pb e = absurd (none-some e)
+      by (Some a) pa (Some b) pb e = subst Asked (some_is e) (answer a b pa pb (binary_value o t a b) refl)
 
 -- ---- the masked comparison, whether or not its operands have values
 
@@ -145,7 +145,7 @@ module _ (g : List ℕ) (o : Binary) where
       let s = folded g o base updated m e in
       subst (MaskFacts g o) s.is (record { width = s.width; type = refl; here = l; typed = s.typed; result = refl; op = refl })
 
-  mask_facts : (l r : ℕ) → l < count_of g → r < count_of g → (m : Mask) → fold_masked_comparison g o l r ≡ some m → MaskFacts g o m
+  mask_facts : (l r : ℕ) → l < count_of g → r < count_of g → (m : Mask) → fold_masked_comparison g o l r ≡ Some m → MaskFacts g o m
   mask_facts l r ll lr m e = ⊎_elim (pair_facts l r ll m) (pair_facts r l lr m) (first_folded g o l r m e)
 
 -- ---- its nodes, of Equal and NotEqual
@@ -160,23 +160,23 @@ result_bool a b t =
 
 module _ {ρ : World} {g : List ℕ} (i : Inv ρ g) (o : Binary) (l r : ℕ) (k : Callable g (binary ty.Bool o l r)) (q : is_any equalities o ≡ true) where
   -- its value, where both operands have one
-  mask_covers : (w : ℕ) (b : ℕ) (c d : ℕ) → fold_masked_comparison g o l r ≡ some (record { type = ty.Bits w; base = b; mask = c; result = ty.Bool; op = o; literal = d })
+  mask_covers : (w : ℕ) (b : ℕ) (c d : ℕ) → fold_masked_comparison g o l r ≡ Some (record { type = ty.Bits w; base = b; mask = c; result = ty.Bool; op = o; literal = d })
       → Covers (binary_means ty.Bool o (value ρ g l) (value ρ g r))
-      (binary_means ty.Bool o (binary_means (ty.Bits w) bi.And (value ρ g b) (some (reduced (ty.Bits w) c))) (some (reduced (ty.Bits w) d)))
+      (binary_means ty.Bool o (binary_means (ty.Bits w) bi.And (value ρ g b) (Some (reduced (ty.Bits w) c))) (Some (reduced (ty.Bits w) d)))
   mask_covers w b c d e x h =
       let p = operands ρ g ty.Bool o l r x h in
       let s = masked_sound ρ g i o l r p.x p.y k.1 k.2 p.left p.right (record { type = ty.Bits w; base = b; mask = c; result = ty.Bool; op = o; literal = d }) e in
       let same : w ≡ s.width = bits_is s.type in
       let lc : c < 2 ^ w = subst (λ (n : ℕ). c < 2 ^ n) (sym same) s.mask in
       let ld : d < 2 ^ w = subst (λ (n : ℕ). d < 2 ^ n) (sym same) s.literal in
-      (λ j. binary_means ty.Bool o (binary_means (ty.Bits w) bi.And (s.has j) (some (reduced (ty.Bits w) c))) (some (mod-eq_of_lt ld j)))
-      ∙ (λ j. binary_means ty.Bool o (mask_value w s.base c lc j) (some d))
+      (λ j. binary_means ty.Bool o (binary_means (ty.Bits w) bi.And (s.has j) (Some (reduced (ty.Bits w) c))) (Some (mod-eq_of_lt ld j)))
+      ∙ (λ j. binary_means ty.Bool o (mask_value w s.base c lc j) (Some d))
       ∙ ap (λ (n : Option ℕ). and_then n (of_type ty.Bool)) (sym (equality_value ty.Bool p.x p.y (bit_and s.base c) d s.means o q)) ∙ p.means
     where
       bits_is : {a b : ℕ} → ty.Bits a ≡ ty.Bits b → a ≡ b
       bits_is e = cc
 
-  masking : (m : Mask) → fold_masked_comparison g o l r ≡ some m → Masking ρ g ty.Bool (binary_means ty.Bool o (value ρ g l) (value ρ g r)) m
+  masking : (m : Mask) → fold_masked_comparison g o l r ≡ Some m → Masking ρ g ty.Bool (binary_means ty.Bool o (value ρ g l) (value ρ g r)) m
   masking m e =
       let f = mask_facts g o l r k.1 k.2 m e in
       let s : m ≡ record { type = ty.Bits f.width; base = m.base; mask = m.mask; result = ty.Bool; op = o; literal = m.literal }
@@ -190,7 +190,7 @@ module _ {ρ : World} {g : List ℕ} (i : Inv ρ g) (o : Binary) (l r : ℕ) (k 
         refl,
         omega arith,
         compare_typed f.width o q,
-        λ sure. mask_covers f.width m.base m.mask m.literal (e ∙ ap some s),
+        λ sure. mask_covers f.width m.base m.mask m.literal (e ∙ ap Some s),
       )
 
 -- ---- binary whole
@@ -213,7 +213,7 @@ module _ {ρ : World} {g : List ℕ} (i : Inv ρ g) (t : ScalarType) (o : Binary
       by_given Begun (provided (is_any equalities o) (fold_masked_comparison g o l r))
       (λ m e. let p = provided_is (is_any equalities o) (fold_masked_comparison g o l r) e in masked p.0 m p.1) (λ n. binary_plan_claim i t o l r k)
     where
-      masked : is_any equalities o ≡ true → (m : Mask) → fold_masked_comparison g o l r ≡ some m → Begun (tries (plan.masked m) (binary_rest t o l r))
+      masked : is_any equalities o ≡ true → (m : Mask) → fold_masked_comparison g o l r ≡ Some m → Begun (tries (plan.masked m) (binary_rest t o l r))
       masked q m e =
           let b = result_bool (type_at g l) (type_at g r) t o q k.3 in (
             subst (λ (t : ScalarType). Callable g (binary t o l r) → Masking ρ g t (binary_means t o (value ρ g l) (value ρ g r)) m) (sym b)

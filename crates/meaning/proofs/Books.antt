@@ -51,14 +51,14 @@ module _ (n : ℕ) (b : Book) where
   on_all ρ h k [] s = k
   on_all ρ h k (a ∷ before) s = on_act ρ a (play_on ρ before h) s.1 (on_all ρ h k before s.0)
 
-module _ (ρ : Env) (m : List ℕ) (none : Unmarked m) (before : List Action) (n : ℕ) where
+module _ (ρ : Env) (m : List ℕ) (None : Unmarked m) (before : List Action) (n : ℕ) where
   abbrev start : History
   start = play ρ m before
 
   -- right after the mark
   set : (mark_call start.now.graph start.marks).answer ≡ marks.number n → Has n start.now.book (act ρ mark start).books
   set e =
-      let q : n ≡ length start.books + 0 = omega (arith, (mark-number start.now.graph start.marks n e).2, (whole ρ m none before).standing) in
+      let q : n ≡ length start.books + 0 = omega (arith, (mark-number start.now.graph start.marks n e).2, (whole ρ m None before).standing) in
       rw e (
         omega (arith, q, length-append start.books (start.now.book ∷ [])),
         ap (λ (j : ℕ). get_or (start.books ++ (start.now.book ∷ [])) j blank) q ∙ get_or-append-add start.books (start.now.book ∷ []) 0 blank,

@@ -2,7 +2,7 @@
 use mathlib.Core.Path.{◌≡◌, refl, sym, ap, ◌∙◌, subst}
 use mathlib.Core.Bool.{Bool, true, false, cond, false≢true}
 use mathlib.Core.List.{List}
-use mathlib.Core.Option.{Option, none, some}
+use Rattle.std.specs.Prelude.{Option, None, Some}
 use Prim.Native.Nat.{ℕ}
 use Rattle.word.specs.Option.{given}
 use borrow.Author.Tests.{eqb-true}
@@ -77,8 +77,8 @@ module _ {ρ : World} {g : List ℕ} (i : Inv ρ g) (t : ScalarType) (o : Unary)
 
       by : (c : Option ℕ) → literal g n ≡ c
           → FirstClaim ρ g t (unary_means t o (value ρ g n)) (given c (λ c. does (constant_or t (unary_value o c))) (unary_open g t o n))
-      by none e = open_claim (is_reduction t o) refl
-      by (some c) e = unary-constant_claim i n k.2 t o k.0 k.1 k.3 c e
+      by None e = open_claim (is_reduction t o) refl
+      by (Some c) e = unary-constant_claim i n k.2 t o k.0 k.1 k.3 c e
 
 -- ---- every builder, its operands resolved
 

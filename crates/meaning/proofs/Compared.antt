@@ -2,7 +2,7 @@
 use mathlib.Core.Path.{◌≡◌, refl, sym, ap, ◌∙◌, subst}
 use mathlib.Core.Bool.{Bool, true, false, not, cond, ◌&&◌}
 use mathlib.Core.Logic.{◌⊎◌, inl, inr, ⊎_elim}
-use mathlib.Core.Option.{Option, none, some}
+use Rattle.std.specs.Prelude.{Option, None, Some}
 use Prim.Native.Nat.{ℕ, zero, suc, zero-le, ◌+◌, ◌-◌, ◌*◌, ◌%◌, ◌^◌, ◌≤◌, ◌<◌}
 use native.Mathlib.Nat.{zero-mod, mod-eq_of_lt, le_refl, mul-one, div-one, mod-mod, min-eq_left, lt_of_le_of_lt}
 use native.Mathlib.Omega.{arith}
@@ -64,25 +64,25 @@ not_less x y h = go (lt_z x y) refl
     go false e = refl
 
 module _ (x y : ℤ) (a b : Interval) (f : x ∈ a) (g : y ∈ b) where
-  less_in : (truth : Bool) → less_ranges a b ≡ some truth → lt_z x y ≡ truth
+  less_in : (truth : Bool) → less_ranges a b ≡ Some truth → lt_z x y ≡ truth
   less_in truth = go (lt_z a.high b.low) (le_z b.high a.low) refl refl
     where
       go : (p q : Bool) → lt_z a.high b.low ≡ p → le_z b.high a.low ≡ q
-          → cond p (some true) (cond q (some false) none) ≡ some truth → lt_z x y ≡ truth
+          → cond p (Some true) (cond q (Some false) None) ≡ Some truth → lt_z x y ≡ truth
       go true q d e h = is_less x y (omega (orders, less_true a.high b.low d)) ∙ cc
       go false true d e h = not_less x y (omega (orders, at_most_lem b.high a.low e)) ∙ cc
       go false false d e h = cc
 
-  at_most_in : (truth : Bool) → less_equal_ranges a b ≡ some truth → le_z x y ≡ truth
+  at_most_in : (truth : Bool) → less_equal_ranges a b ≡ Some truth → le_z x y ≡ truth
   at_most_in truth = go (le_z a.high b.low) (lt_z b.high a.low) refl refl
     where
       go : (p q : Bool) → le_z a.high b.low ≡ p → lt_z b.high a.low ≡ q
-          → cond p (some true) (cond q (some false) none) ≡ some truth → le_z x y ≡ truth
+          → cond p (Some true) (cond q (Some false) None) ≡ Some truth → le_z x y ≡ truth
       go true q d e h = le-not_less x y (not_less y x (omega (orders, at_most_lem a.high b.low d))) ∙ cc
       go false true d e h = le-not_less x y (is_less y x (omega (orders, less_true b.high a.low e))) ∙ cc
       go false false d e h = cc
 
-  equal_in : (truth : Bool) → equal_ranges a b ≡ some truth → ((truth ≡ true) × (x ≡ y)) ⊎ ((truth ≡ false) × (x ≡ y → ⊥))
+  equal_in : (truth : Bool) → equal_ranges a b ≡ Some truth → ((truth ≡ true) × (x ≡ y)) ⊎ ((truth ≡ false) × (x ≡ y → ⊥))
   equal_in truth = go (eq_z a.low a.high && same_interval a b) (apart a b) refl refl
     where
       ends : eq_z a.low a.high && same_interval a b ≡ true → x ≡ y
@@ -101,7 +101,7 @@ module _ (x y : ℤ) (a b : Interval) (f : x ∈ a) (g : y ∈ b) where
           (either (lt_z a.high b.low) (lt_z b.high a.low) d)
 
       go : (p q : Bool) → eq_z a.low a.high && same_interval a b ≡ p → apart a b ≡ q
-          → cond p (some true) (cond q (some false) none) ≡ some truth → ((truth ≡ true) × (x ≡ y)) ⊎ ((truth ≡ false) × (x ≡ y → ⊥))
+          → cond p (Some true) (cond q (Some false) None) ≡ Some truth → ((truth ≡ true) × (x ≡ y)) ⊎ ((truth ≡ false) × (x ≡ y → ⊥))
       go true q d e h = inl (cc, ends d)
       go false true d e h = inr (cc, away e)
       go false false d e h = inl (cc, cc)
@@ -129,7 +129,7 @@ natural w x l h =
     below n h = omega orders
 
 module _ (x y : ℕ) (a b : Interval) (l : x < 2 ^ 128) (m : y < 2 ^ 128) (f : (signed 128 x) ∈ a) (g : (signed 128 y) ∈ b) where
-  equal_value : (truth : Bool) → equal_ranges a b ≡ some truth → eqb x y ≡ truth
+  equal_value : (truth : Bool) → equal_ranges a b ≡ Some truth → eqb x y ≡ truth
   equal_value truth e =
       ⊎_elim
       (λ (h : (truth ≡ true) × (signed 128 x ≡ signed 128 y)).
@@ -137,9 +137,9 @@ module _ (x y : ℕ) (a b : Interval) (l : x < 2 ^ 128) (m : y < 2 ^ 128) (f : (
       (λ (h : (truth ≡ false) × (signed 128 x ≡ signed 128 y → ⊥)). ne_eqb x y (λ q. h.1 (ap (signed 128) q)) ∙ sym h.0)
       (equal_in (signed 128 x) (signed 128 y) a b f g truth e)
 
-  equal_mapped : (r : Option Bool) (truth : Bool) → equal_ranges a b ≡ r → mapped not r ≡ some truth → not (eqb x y) ≡ truth
-  equal_mapped none truth d e = cc
-  equal_mapped (some t) truth d e = ap not (equal_value t d) ∙ cc
+  equal_mapped : (r : Option Bool) (truth : Bool) → equal_ranges a b ≡ r → mapped not r ≡ Some truth → not (eqb x y) ≡ truth
+  equal_mapped None truth d e = cc
+  equal_mapped (Some t) truth d e = ap not (equal_value t d) ∙ cc
 
   pub unsigned : unsigned_too a b ≡ true → (signed 128 x ≡ pos x) × (signed 128 y ≡ pos y)
   unsigned e =
@@ -151,22 +151,22 @@ module _ (x y : ℕ) (a b : Interval) (l : x < 2 ^ 128) (m : y < 2 ^ 128) (f : (
       over : (z u : ℤ) → pos 0 ≤ℤ u → u ≤ℤ z → pos 0 ≤ℤ z
       over z u h k = omega orders
 
-  less_unsigned : (t truth : Bool) → unsigned_too a b ≡ t → provided t (less_ranges a b) ≡ some truth → ltb x y ≡ truth
+  less_unsigned : (t truth : Bool) → unsigned_too a b ≡ t → provided t (less_ranges a b) ≡ Some truth → ltb x y ≡ truth
   less_unsigned true truth d e =
       let u = unsigned d in
       sym (λ i. lt_z (u.0 i) (u.1 i)) ∙ less_in (signed 128 x) (signed 128 y) a b f g truth e
   less_unsigned false truth d e = cc
 
-  at_most_unsigned : (t truth : Bool) → unsigned_too a b ≡ t → provided t (less_equal_ranges a b) ≡ some truth → leb x y ≡ truth
+  at_most_unsigned : (t truth : Bool) → unsigned_too a b ≡ t → provided t (less_equal_ranges a b) ≡ Some truth → leb x y ≡ truth
   at_most_unsigned true truth d e =
       let u = unsigned d in
       sym (λ i. le_z (u.0 i) (u.1 i)) ∙ at_most_in (signed 128 x) (signed 128 y) a b f g truth e
   at_most_unsigned false truth d e = cc
 
-  compared : (o : Binary) (truth : Bool) → comparison o a b ≡ some truth → binary_value o ty.Bool x y ≡ some (from_bool truth)
+  compared : (o : Binary) (truth : Bool) → comparison o a b ≡ Some truth → binary_value o ty.Bool x y ≡ Some (from_bool truth)
   unfolding comparison binary_value
   compared o truth e =
-      of_any (λ o. comparison o a b ≡ some truth → binary_value o ty.Bool x y ≡ some (from_bool truth)) comparisons
+      of_any (λ o. comparison o a b ≡ Some truth → binary_value o ty.Bool x y ≡ Some (from_bool truth)) comparisons
       (λ e. so (less_in (signed 128 x) (signed 128 y) a b f g truth e))
       (λ e. so (less_unsigned (unsigned_too a b) truth refl e))
       (λ e. so (at_most_in (signed 128 x) (signed 128 y) a b f g truth e))
@@ -175,34 +175,34 @@ module _ (x y : ℕ) (a b : Interval) (l : x < 2 ^ 128) (m : y < 2 ^ 128) (f : (
       (λ e. so (equal_mapped (equal_ranges a b) truth refl e))
       o (answering comparisons (λ o. comparison o a b) refl o e) e
     where
-      so : {s : Bool} → s ≡ truth → some (from_bool s) ≡ some (from_bool truth)
-      so q = ap (λ (t : Bool). some (from_bool t)) q
+      so : {s : Bool} → s ≡ truth → Some (from_bool s) ≡ Some (from_bool truth)
+      so q = ap (λ (t : Bool). Some (from_bool t)) q
 
 pub comparison_sound : (o : Binary) (s : ScalarType) (x y : ℕ) (a b : Interval) (truth : Bool) → x < 2 ^ 128 → y < 2 ^ 128
-    → (integer_of s x) ∈ a → (integer_of s y) ∈ b → Ends a → Ends b → comparison o a b ≡ some truth
-    → binary_value o ty.Bool x y ≡ some (from_bool truth)
+    → (integer_of s x) ∈ a → (integer_of s y) ∈ b → Ends a → Ends b → comparison o a b ≡ Some truth
+    → binary_value o ty.Bool x y ≡ Some (from_bool truth)
 comparison_sound o s x y a b truth l m f g p q e =
     compared x y a b l m (subst (λ (z : ℤ). z ∈ a) (read s x a f p) f) (subst (λ (z : ℤ). z ∈ b) (read s y b g q) g) o truth e
 
 -- ---- one value twice
 
 -- an integer of a pattern, as an answer
-answer : (z : ℤ) (x : ℕ) → x < 2 ^ 128 → z ≡ signed 128 x → mapped (residue 128) (fitted z) ≡ some x
+answer : (z : ℤ) (x : ℕ) → x < 2 ^ 128 → z ≡ signed 128 x → mapped (residue 128) (fitted z) ≡ Some x
 unfolding fits
 answer z x l e =
     let m : mag (signed 128 x) < 2 ^ 127 = signed_mag 128 x (omega arith) l in
-    rw (e, lt-ltb (mag (signed 128 x)) (2 ^ 127) m) (ap some (residue-signed 128 x l))
+    rw (e, lt-ltb (mag (signed 128 x)) (2 ^ 127) m) (ap Some (residue-signed 128 x l))
 
 -- what is the value x of the type t, as an answer
 module _ (t : ScalarType) (x : ℕ) (l : x < size t) where
-  kept : (n : ℕ) → n ≡ x → ◌≡◌ {A = Option ℕ} (some (reduced t n)) (some x)
-  kept n e = ap (λ (n : ℕ). some (reduced t n)) e ∙ ap some (reduced_same t x l)
+  kept : (n : ℕ) → n ≡ x → ◌≡◌ {A = Option ℕ} (Some (reduced t n)) (Some x)
+  kept n e = ap (λ (n : ℕ). Some (reduced t n)) e ∙ ap Some (reduced_same t x l)
 
   -- of a sum, a difference or a product: n in Bool and Bits, z in Integer
-  kept_sum : x < 2 ^ 128 → (n : ℕ) (z : ℤ) → n ≡ x → z ≡ signed 128 x → mapped (reduced t) (by_type t (mapped (residue 128) (fitted z)) (some n)) ≡ some x
+  kept_sum : x < 2 ^ 128 → (n : ℕ) (z : ℤ) → n ≡ x → z ≡ signed 128 x → mapped (reduced t) (by_type t (mapped (residue 128) (fitted z)) (Some n)) ≡ Some x
   kept_sum m n z e f = go t (kept n e)
     where
-      go : (t : ScalarType) → some (reduced t n) ≡ some x → mapped (reduced t) (by_type t (mapped (residue 128) (fitted z)) (some n)) ≡ some x
+      go : (t : ScalarType) → Some (reduced t n) ≡ Some x → mapped (reduced t) (by_type t (mapped (residue 128) (fitted z)) (Some n)) ≡ Some x
       go ty.Bool k = k
       go (ty.Bits w) k = k
       go ty.Integer k = ap (mapped (reduced ty.Integer)) (answer z x m f)
@@ -211,44 +211,44 @@ zero-signed : signed 128 0 ≡ pos 0
 zero-signed = signed_low 128 0 (pow_pos 127)
 
 module _ (t : ScalarType) (x : ℕ) where
-  pub sub_twice : x < 2 ^ 128 → binary_value bi.Sub t x x ≡ some 0
+  pub sub_twice : x < 2 ^ 128 → binary_value bi.Sub t x x ≡ Some 0
   unfolding binary_value
   sub_twice l = kept_sum t 0 (size-pos t) (pow_pos 128) _ _ (sub_same x (2 ^ 128) l) (+ℤ_invr (signed 128 x) ∙ sym zero-signed)
 
-  pub xor_twice : binary_value bi.Xor t x x ≡ some 0
+  pub xor_twice : binary_value bi.Xor t x x ≡ Some 0
   unfolding binary_value
   xor_twice = kept t 0 (size-pos t) (bit_xor x x) (xor_self x)
 
-  pub and_twice : x < size t → binary_value bi.And t x x ≡ some x
+  pub and_twice : x < size t → binary_value bi.And t x x ≡ Some x
   unfolding binary_value
   and_twice l = kept t x l (bit_and x x) (and_self x)
 
-  pub or_twice : x < size t → binary_value bi.Or t x x ≡ some x
+  pub or_twice : x < size t → binary_value bi.Or t x x ≡ Some x
   unfolding binary_value
   or_twice l = kept t x l (bit_or x x) (or_self x)
 
 module _ (x : ℕ) where
-  pub equal_twice : binary_value bi.Equal ty.Bool x x ≡ some 1
+  pub equal_twice : binary_value bi.Equal ty.Bool x x ≡ Some 1
   unfolding binary_value
   equal_twice = rw (eq-eqb x x refl)
 
-  pub not_equal_twice : binary_value bi.NotEqual ty.Bool x x ≡ some 0
+  pub not_equal_twice : binary_value bi.NotEqual ty.Bool x x ≡ Some 0
   unfolding binary_value
   not_equal_twice = rw (eq-eqb x x refl)
 
-  pub less_signed_twice : binary_value bi.LessSigned ty.Bool x x ≡ some 0
+  pub less_signed_twice : binary_value bi.LessSigned ty.Bool x x ≡ Some 0
   unfolding binary_value
   less_signed_twice = rw (not_less (signed 128 x) (signed 128 x) (≤ℤ_refl (signed 128 x)))
 
-  pub less_unsigned_twice : binary_value bi.LessUnsigned ty.Bool x x ≡ some 0
+  pub less_unsigned_twice : binary_value bi.LessUnsigned ty.Bool x x ≡ Some 0
   unfolding binary_value
   less_unsigned_twice = rw (le-ltb x x (le_refl x))
 
-  pub at_most-signed_twice : binary_value bi.LessEqualSigned ty.Bool x x ≡ some 1
+  pub at_most-signed_twice : binary_value bi.LessEqualSigned ty.Bool x x ≡ Some 1
   unfolding binary_value
   at_most-signed_twice = rw (le-not_less (signed 128 x) (signed 128 x) (not_less (signed 128 x) (signed 128 x) (≤ℤ_refl (signed 128 x))))
 
-  pub at_most_unsigned_twice : binary_value bi.LessEqualUnsigned ty.Bool x x ≡ some 1
+  pub at_most_unsigned_twice : binary_value bi.LessEqualUnsigned ty.Bool x x ≡ Some 1
   unfolding binary_value
   at_most_unsigned_twice = rw (le-leb x x (le_refl x))
 
@@ -268,41 +268,41 @@ shr_one (pos n) = ap pos (div-one n)
 shr_one (negsuc n) = ap negsuc (div-one n)
 
 module _ (t : ScalarType) (x : ℕ) where
-  pub and_zero : binary_value bi.And t x 0 ≡ some 0
+  pub and_zero : binary_value bi.And t x 0 ≡ Some 0
   unfolding binary_value
   and_zero = kept t 0 (size-pos t) (bit_and x 0) (and_zero_r x)
 
-  pub mul-zero : binary_value bi.Mul t x 0 ≡ some 0
+  pub mul-zero : binary_value bi.Mul t x 0 ≡ Some 0
   unfolding binary_value
   mul-zero =
       kept_sum t 0 (size-pos t) (pow_pos 128) _ _ (ap (λ (n : ℕ). n % 2 ^ 128) (times_zero x) ∙ zero-mod (2 ^ 128))
       (ap (λ (z : ℤ). signed 128 x *ℤ z) zero-signed ∙ *ℤ-zero (signed 128 x) ∙ sym zero-signed)
 
   module _ (l : x < size t) where
-    pub or-zero : binary_value bi.Or t x 0 ≡ some x
+    pub or-zero : binary_value bi.Or t x 0 ≡ Some x
     unfolding binary_value
     or-zero = kept t x l (bit_or x 0) (or_zero_r x)
 
-    pub xor-zero : binary_value bi.Xor t x 0 ≡ some x
+    pub xor-zero : binary_value bi.Xor t x 0 ≡ Some x
     unfolding binary_value
     xor-zero = kept t x l (bit_xor x 0) (xor_zero_r x)
 
     module _ (m : x < 2 ^ 128) where
-      pub shift_left_zero : binary_value bi.ShiftLeft t x 0 ≡ some x
+      pub shift_left_zero : binary_value bi.ShiftLeft t x 0 ≡ Some x
       unfolding binary_value
       shift_left_zero = kept t x l (shifted_left x 0) (shift_left x 0 ∙ ap (λ (n : ℕ). n % 2 ^ 128) (mul-one x) ∙ mod-eq_of_lt m)
 
-      pub shift_right_zero : binary_value bi.ShiftRight t x 0 ≡ some x
+      pub shift_right_zero : binary_value bi.ShiftRight t x 0 ≡ Some x
       unfolding binary_value
       shift_right_zero = kept t x l (shifted_right x 0) (shift_right x 0 m ∙ div-one x)
 
-      pub add-zero : binary_value bi.Add t x 0 ≡ some x
+      pub add-zero : binary_value bi.Add t x 0 ≡ Some x
       unfolding binary_value
       add-zero =
           kept_sum t x l m _ _ (ap (λ (n : ℕ). n % 2 ^ 128) (plus_zero x) ∙ mod-eq_of_lt m)
           (ap (λ (z : ℤ). signed 128 x +ℤ z) zero-signed ∙ +ℤ_idr (signed 128 x))
 
-      pub sub-zero : binary_value bi.Sub t x 0 ≡ some x
+      pub sub-zero : binary_value bi.Sub t x 0 ≡ Some x
       unfolding binary_value
       sub-zero =
           kept_sum t x l m _ _ (sub_exact x 0 (2 ^ 128) m zero-le ∙ minus_zero x) (ap (λ (z : ℤ). signed 128 x -ℤ z) zero-signed ∙ +ℤ_idr (signed 128 x))
@@ -316,11 +316,11 @@ arithmetic-none x (suc w) h l =
 arithmetic_all : (x : ℕ) → x < 2 ^ 128 → arithmetic_shift 128 x 0 ≡ x
 arithmetic_all x m = arithmetic 128 x (omega arith) m (omega arith) 0 ∙ ap (residue 128) (shr_one (signed 128 x)) ∙ residue-signed 128 x m
 
-pub arithmetic-zero : (t : ScalarType) (x : ℕ) → shift_width t ≤ 128 → x < size t → binary_value bi.ArithmeticShiftRight t x 0 ≡ some x
+pub arithmetic-zero : (t : ScalarType) (x : ℕ) → shift_width t ≤ 128 → x < size t → binary_value bi.ArithmeticShiftRight t x 0 ≡ Some x
 unfolding binary_value
-arithmetic-zero ty.Bool x h l = ap some (arithmetic_all x (pattern ty.Bool x (omega arith) l))
-arithmetic-zero (ty.Bits w) x h l = ap some (arithmetic-none x w h l)
-arithmetic-zero ty.Integer x h l = ap some (arithmetic_all x l)
+arithmetic-zero ty.Bool x h l = ap Some (arithmetic_all x (pattern ty.Bool x (omega arith) l))
+arithmetic-zero (ty.Bits w) x h l = ap Some (arithmetic-none x w h l)
+arithmetic-zero ty.Integer x h l = ap Some (arithmetic_all x l)
 
 -- ---- all ones on the right
 
@@ -337,28 +337,28 @@ module _ (w x : ℕ) (l : x < 2 ^ w) where
       go : (p q n : ℕ) → p + q ≡ x + n → q ≡ x → p ≡ n
       go p q n e f = omega arith
 
-  pub and_ones : binary_value bi.And (ty.Bits w) x (2 ^ w - 1) ≡ some x
+  pub and_ones : binary_value bi.And (ty.Bits w) x (2 ^ w - 1) ≡ Some x
   unfolding binary_value
-  and_ones = ap (λ (n : ℕ). some (n % 2 ^ w)) ones_and ∙ ap some (mod-eq_of_lt l)
+  and_ones = ap (λ (n : ℕ). Some (n % 2 ^ w)) ones_and ∙ ap Some (mod-eq_of_lt l)
 
-  pub or_ones : binary_value bi.Or (ty.Bits w) x (2 ^ w - 1) ≡ some (2 ^ w - 1)
+  pub or_ones : binary_value bi.Or (ty.Bits w) x (2 ^ w - 1) ≡ Some (2 ^ w - 1)
   unfolding binary_value
-  or_ones = ap (λ (n : ℕ). some (n % 2 ^ w)) ones_or ∙ ap some (mod-eq_of_lt (ones_lt w))
+  or_ones = ap (λ (n : ℕ). Some (n % 2 ^ w)) ones_or ∙ ap Some (mod-eq_of_lt (ones_lt w))
 
 -- the same of Bool
-pub and-true : (x : ℕ) → x < 2 → binary_value bi.And ty.Bool x 1 ≡ some x
+pub and-true : (x : ℕ) → x < 2 → binary_value bi.And ty.Bool x 1 ≡ Some x
 unfolding binary_value
-and-true x l = ap some (ones_and 1 x l)
+and-true x l = ap Some (ones_and 1 x l)
 
-pub or-true : (x : ℕ) → x < 2 → binary_value bi.Or ty.Bool x 1 ≡ some 1
+pub or-true : (x : ℕ) → x < 2 → binary_value bi.Or ty.Bool x 1 ≡ Some 1
 unfolding binary_value
-or-true x l = ap some (ones_or 1 x l)
+or-true x l = ap Some (ones_or 1 x l)
 
 -- And with a constant of Bits(w), as a node's value
-pub mask_value : (w x m : ℕ) → m < 2 ^ w → binary_means (ty.Bits w) bi.And (some x) (some (reduced (ty.Bits w) m)) ≡ some (bit_and x m)
+pub mask_value : (w x m : ℕ) → m < 2 ^ w → binary_means (ty.Bits w) bi.And (Some x) (Some (reduced (ty.Bits w) m)) ≡ Some (bit_and x m)
 unfolding binary_value
 mask_value w x m l =
-    (λ k. binary_means (ty.Bits w) bi.And (some x) (some (mod-eq_of_lt l k))) ∙ valued_same (ty.Bits w) (bit_and x m) (lt_of_le_of_lt (and_le_r x m) l)
+    (λ k. binary_means (ty.Bits w) bi.And (Some x) (Some (mod-eq_of_lt l k))) ∙ valued_same (ty.Bits w) (bit_and x m) (lt_of_le_of_lt (and_le_r x m) l)
 
 -- ---- masks of masks
 
@@ -376,49 +376,49 @@ module _ (f : ℕ → ℕ → ℕ) (low : (a b k : ℕ) → f a b % 2 ^ k ≡ f 
   right_reduced ty.Integer a b = refl
 
   merged : ((a b c : ℕ) → f (f a b) c ≡ f a (f b c)) → (t : ScalarType) (x c d v k : ℕ)
-      → some (reduced t (f x c)) ≡ some v → some (reduced t (f c d)) ≡ some k → ◌≡◌ {A = Option ℕ} (some (reduced t (f v d))) (some (reduced t (f x k)))
+      → Some (reduced t (f x c)) ≡ Some v → Some (reduced t (f c d)) ≡ Some k → ◌≡◌ {A = Option ℕ} (Some (reduced t (f v d))) (Some (reduced t (f x k)))
   merged assoc t x c d v k p q =
       let p' : reduced t (f x c) ≡ v = some_is p in
       let q' : reduced t (f c d) ≡ k = some_is q in
-      rw (← p', ← q') (ap some (left_reduced t (f x c) d ∙ ap (reduced t) (assoc x c d) ∙ sym (right_reduced t x (f c d))))
+      rw (← p', ← q') (ap Some (left_reduced t (f x c) d ∙ ap (reduced t) (assoc x c d) ∙ sym (right_reduced t x (f c d))))
 
 -- v is the operation of x and c, k that of c and d
 module _ (t : ScalarType) (x c d v k : ℕ) where
-  pub and_merged : binary_value bi.And t x c ≡ some v → binary_value bi.And t c d ≡ some k → binary_value bi.And t v d ≡ binary_value bi.And t x k
+  pub and_merged : binary_value bi.And t x c ≡ Some v → binary_value bi.And t c d ≡ Some k → binary_value bi.And t v d ≡ binary_value bi.And t x k
   unfolding binary_value
   and_merged = merged bit_and and_mod and_assoc t x c d v k
 
-  pub or_merged : binary_value bi.Or t x c ≡ some v → binary_value bi.Or t c d ≡ some k → binary_value bi.Or t v d ≡ binary_value bi.Or t x k
+  pub or_merged : binary_value bi.Or t x c ≡ Some v → binary_value bi.Or t c d ≡ Some k → binary_value bi.Or t v d ≡ binary_value bi.Or t x k
   unfolding binary_value
   or_merged = merged bit_or or_mod or_assoc t x c d v k
 
-  pub xor_merged : binary_value bi.Xor t x c ≡ some v → binary_value bi.Xor t c d ≡ some k → binary_value bi.Xor t v d ≡ binary_value bi.Xor t x k
+  pub xor_merged : binary_value bi.Xor t x c ≡ Some v → binary_value bi.Xor t c d ≡ Some k → binary_value bi.Xor t v d ≡ binary_value bi.Xor t x k
   unfolding binary_value
   xor_merged = merged bit_xor xor_mod xor_assoc t x c d v k
 
 -- v is x or c, u is x and d
-module _ (t : ScalarType) (x c d v u : ℕ) (p : binary_value bi.Or t x c ≡ some v) (q : binary_value bi.And t x d ≡ some u) where
+module _ (t : ScalarType) (x c d v u : ℕ) (p : binary_value bi.Or t x c ≡ Some v) (q : binary_value bi.And t x d ≡ Some u) where
   and_of_or : binary_value bi.And t v d ≡ binary_value bi.Or t u (bit_and c d)
   unfolding binary_value
   and_of_or =
       let p' : reduced t (bit_or x c) ≡ v = some_is p in
       let q' : reduced t (bit_and x d) ≡ u = some_is q in
       rw (← p', ← q')
-      (ap some
+      (ap Some
       (left_reduced bit_and and_mod t (bit_or x c) d ∙ ap (reduced t) (and-or x c d) ∙ sym (left_reduced bit_or or_mod t (bit_and x d) (bit_and c d))))
 
   -- k is c and d
-  pub and_of_or_merged : (k : ℕ) → binary_value bi.And t c d ≡ some k → binary_value bi.And t v d ≡ binary_value bi.Or t u k
+  pub and_of_or_merged : (k : ℕ) → binary_value bi.And t c d ≡ Some k → binary_value bi.And t v d ≡ binary_value bi.Or t u k
   unfolding binary_value
   and_of_or_merged k r =
       let r' : reduced t (bit_and c d) ≡ k = some_is r in
-      and_of_or ∙ rw (← r') (ap some (sym (right_reduced bit_or or_mod t u (bit_and c d))))
+      and_of_or ∙ rw (← r') (ap Some (sym (right_reduced bit_or or_mod t u (bit_and c d))))
 
 -- ---- the remainder by a power of two
 
 remainder-and : (t : ScalarType) (x k : ℕ) → binary_value bi.RemainderUnsigned t x (2 ^ k) ≡ binary_value bi.And t x (2 ^ k - 1)
 unfolding binary_value
-remainder-and t x k = rw (lt-ltb 0 (2 ^ k) (pow_pos k)) (ap (λ (n : ℕ). some (reduced t n)) (sym (and_mask x k)))
+remainder-and t x k = rw (lt-ltb 0 (2 ^ k) (pow_pos k)) (ap (λ (n : ℕ). Some (reduced t n)) (sym (and_mask x k)))
 
 pub remainder_power : (t : ScalarType) (x b : ℕ) → is_power_of_two b ≡ true → binary_value bi.RemainderUnsigned t x b ≡ binary_value bi.And t x (b - 1)
 remainder_power t x b e = let p = power_of_two b e in rw p.1 (remainder-and t x p.0)

@@ -2,7 +2,7 @@
 use mathlib.Core.Path.{◌≡◌, refl, sym, ap, ◌∙◌, subst}
 use mathlib.Core.Bool.{Bool, true, false, cond, ◌&&◌, ◌||◌}
 use mathlib.Core.List.{List}
-use mathlib.Core.Option.{Option, none, some}
+use Rattle.std.specs.Prelude.{Option, None, Some}
 use Prim.Native.Nat.{ℕ, zero, suc, ◌+◌, ◌-◌, ◌*◌, ◌/◌, ◌%◌, ◌^◌, ◌≤◌, ◌<◌}
 use native.Mathlib.Nat.{mod-mod, mod-eq_of_lt, div-one}
 use native.Mathlib.Omega.{arith}
@@ -82,7 +82,7 @@ concat_plan_claim ρ g high low v w c = (refl, concat_storable ρ g high low v w
 
 -- ---- an operation that is a slice
 
-cut_is : (o : Op) (c : Cut) → cut_of o ≡ some c → (w : ℕ) × (o ≡ node.slice c.value c.offset w)
+cut_is : (o : Op) (c : Cut) → cut_of o ≡ Some c → (w : ℕ) × (o ≡ node.slice c.value c.offset w)
 cut_is (node.constant n) c e = absurd (none-some e)
 cut_is (node.input n) c e = absurd (none-some e)
 cut_is (node.refine n) c e = absurd (none-some e)
@@ -104,8 +104,8 @@ StepHere g (from p j) = p < count_of g
 StepHere g (flipped p j) = p < count_of g
 
 abbrev BaseHere : List ℕ → Option ℕ → Type 0
-BaseHere g none = Unit {0}
-BaseHere g (some m) = m < count_of g
+BaseHere g None = Unit {0}
+BaseHere g (Some m) = m < count_of g
 
 module _ (g : List ℕ) (n i : ℕ) (l : n < count_of g) where
   masked_here : (o : Binary) (set : Bool) (p : ℕ) → p < count_of g → StepHere g (masked_bit o n set p i)
@@ -140,58 +140,58 @@ module _ {ρ : World} {g : List ℕ} (inv : Inv ρ g) where
   step_here n i l =
       by_test (StepHere g) (leb 128 i || above (type_at g n) i) (λ e. tt) (λ e. op_here g n i l (operation_at g n) (inv_below inv n l))
 
-  turned_here : (o : Option Bit) (b : Bit) → negated_bit o ≡ some b → Here g b
-  turned_here none b e = absurd (none-some e)
-  turned_here (some (known k)) b e = subst (Here g) (some_is e) tt
-  turned_here (some (source m j)) b e = absurd (none-some e)
+  turned_here : (o : Option Bit) (b : Bit) → negated_bit o ≡ Some b → Here g b
+  turned_here None b e = absurd (none-some e)
+  turned_here (Some (known k)) b e = subst (Here g) (some_is e) tt
+  turned_here (Some (source m j)) b e = absurd (none-some e)
 
-  reached_here : (s : BitStep) (r : ℕ → ℕ → Option Bit) → StepHere g s → ((n j : ℕ) → n < count_of g → (b : Bit) → r n j ≡ some b → Here g b)
-      → (b : Bit) → reached s r ≡ some b → Here g b
+  reached_here : (s : BitStep) (r : ℕ → ℕ → Option Bit) → StepHere g s → ((n j : ℕ) → n < count_of g → (b : Bit) → r n j ≡ Some b → Here g b)
+      → (b : Bit) → reached s r ≡ Some b → Here g b
   reached_here (here k) r h ih b e = subst (Here g) (some_is e) h
   reached_here (from p j) r h ih b e = ih p j h b e
   reached_here (flipped p j) r h ih b e = turned_here (r p j) b e
 
-  bit_here : (k n i : ℕ) → n < count_of g → (b : Bit) → bit_at g k n i ≡ some b → Here g b
+  bit_here : (k n i : ℕ) → n < count_of g → (b : Bit) → bit_at g k n i ≡ Some b → Here g b
   unfolding bit_at
   bit_here zero n i l b e = absurd (none-some e)
   bit_here (suc k) n i l b e = reached_here (bit_step g n i) (bit_at g k) (step_here n i l) (λ m j. bit_here k m j) b e
 
-  with_here : (f r : Field) (i : ℕ) (b : Bit) → BaseHere g f.base → Here g b → with_bit f i b ≡ some r → BaseHere g r.base
+  with_here : (f r : Field) (i : ℕ) (b : Bit) → BaseHere g f.base → Here g b → with_bit f i b ≡ Some r → BaseHere g r.base
   with_here f r i (known k) h q e = subst (λ (d : Field). BaseHere g d.base) (some_is e) h
   with_here f r i (source m j) h q e =
       subst (λ (d : Field). BaseHere g d.base) (some_is (provided_is (eqb j i && same_base f.base m) _ e).1) q
 
   module _ (high low v : ℕ) (lh : high < count_of g) (ll : low < count_of g) where
-    field_here : (k i : ℕ) (f r : Field) → BaseHere g f.base → field_from g high low v i k f ≡ some r → BaseHere g r.base
+    field_here : (k i : ℕ) (f r : Field) → BaseHere g f.base → field_from g high low v i k f ≡ Some r → BaseHere g r.base
     field_here zero i f r h e = subst (λ (d : Field). BaseHere g d.base) (some_is e) h
     field_here (suc k) i f r h e =
         let p = given_is (concat_bit g high low v i) _ e in
         let q = given_is (with_bit f i p.0) _ p.2 in
         field_here k (suc i) q.0 r (with_here f q.0 i p.0 h (at p.0 p.1) q.1) q.2
       where
-        at : (b : Bit) → concat_bit g high low v i ≡ some b → Here g b
+        at : (b : Bit) → concat_bit g high low v i ≡ Some b → Here g b
         at b =
-            by_test (λ (o : Option Bit). o ≡ some b → Here g b) (ltb i v) (λ q. bit_here DEPTH low i ll b) (λ q. bit_here DEPTH high (i - v) lh b)
+            by_test (λ (o : Option Bit). o ≡ Some b → Here g b) (ltb i v) (λ q. bit_here DEPTH low i ll b) (λ q. bit_here DEPTH high (i - v) lh b)
 
-    base_here : (w : ℕ) (f : Field) → fold_bitfield_concat g high low v w ≡ some f → BaseHere g f.base
+    base_here : (w : ℕ) (f : Field) → fold_bitfield_concat g high low v w ≡ Some f → BaseHere g f.base
     unfolding fold_bitfield_concat
     base_here w f e = field_here w 0 no_bits f tt (provided_is (low_fits g low v) (field_from g high low v 0 w no_bits) e).1
 
 -- ---- And with a mask, then Or with a literal
 
 masked-means : (w u keep lit z : ℕ) → keep < 2 ^ w → lit < 2 ^ w → z ≡ bit_or (bit_and u keep) lit % 2 ^ w
-    → binary_means (ty.Bits w) bi.Or (binary_means (ty.Bits w) bi.And (some u) (some (keep % 2 ^ w))) (some (lit % 2 ^ w)) ≡ some z
+    → binary_means (ty.Bits w) bi.Or (binary_means (ty.Bits w) bi.And (Some u) (Some (keep % 2 ^ w))) (Some (lit % 2 ^ w)) ≡ Some z
 unfolding binary_value
 masked-means w u keep lit z lk ll e =
-    (λ k. binary_means (ty.Bits w) bi.Or (mask_value w u keep lk k) (some (mod-eq_of_lt ll k))) ∙ low_valued w (bit_or (bit_and u keep) lit) ∙ ap some (sym e)
+    (λ k. binary_means (ty.Bits w) bi.Or (mask_value w u keep lk k) (Some (mod-eq_of_lt ll k))) ∙ low_valued w (bit_or (bit_and u keep) lit) ∙ ap Some (sym e)
 
 -- ---- the parts of a value
 
 record Joins (ρ : World) (g : List ℕ) (high low v w z : ℕ) : Type 0 where
   x : ℕ
   y : ℕ
-  left : value ρ g high ≡ some x
-  right : value ρ g low ≡ some y
+  left : value ρ g high ≡ Some x
+  right : value ρ g low ≡ Some y
   above : x < 2 ^ (w - v)
   below : y < 2 ^ v
   means : z ≡ (x * 2 ^ v + y) % 2 ^ w
@@ -204,7 +204,7 @@ module _ {ρ : World} {g : List ℕ} (i : Inv ρ g) (high low v w : ℕ) (c : Ca
   abbrev Firsts : First → Type 0
   Firsts f = FirstClaim ρ g (ty.Bits w) (concat_means (ty.Bits w) v (value ρ g high) (value ρ g low)) f
 
-  joins : (z : ℕ) → concat_means (ty.Bits w) v (value ρ g high) (value ρ g low) ≡ some z → Joins ρ g high low v w z
+  joins : (z : ℕ) → concat_means (ty.Bits w) v (value ρ g high) (value ρ g low) ≡ Some z → Joins ρ g high low v w z
   joins z e =
       let p = then_is (value ρ g high) (λ x. and_then (value ρ g low) (λ y. valued (ty.Bits w) (x * 2 ^ v + y))) z e in
       let q = then_is (value ρ g low) (λ y. valued (ty.Bits w) (p.0 * 2 ^ v + y)) z p.2 in
@@ -221,11 +221,11 @@ module _ {ρ : World} {g : List ℕ} (i : Inv ρ g) (high low v w : ℕ) (c : Ca
   -- a constant that every sum of parts is
   constant_claim : (n : ℕ) → ((z : ℕ) (j : Joins ρ g high low v w z) → j.x * 2 ^ v + j.y ≡ n)
       → Claims (plan.constant (ty.Bits w) n)
-  constant_claim n k = (refl, bits_number c.1 n, λ sure z e. let j = joins z e in ap some (sym (j.means ∙ ap (λ (m : ℕ). m % 2 ^ w) (k z j))))
+  constant_claim n k = (refl, bits_number c.1 n, λ sure z e. let j = joins z e in ap Some (sym (j.means ∙ ap (λ (m : ℕ). m % 2 ^ w) (k z j))))
 
   -- a slice of a node that holds both parts
   slice_claim : (n o : ℕ) → n < count_of g
-      → ((z : ℕ) (j : Joins ρ g high low v w z) → (u : ℕ) × (value ρ g n ≡ some u) × ((j.x * 2 ^ v + j.y) % 2 ^ w ≡ u / 2 ^ o % 2 ^ w))
+      → ((z : ℕ) (j : Joins ρ g high low v w z) → (u : ℕ) × (value ρ g n ≡ Some u) × ((j.x * 2 ^ v + j.y) % 2 ^ w ≡ u / 2 ^ o % 2 ^ w))
       → Claims (plan.slice n o w)
   slice_claim n o l k = (
     (c.1, l),
@@ -234,7 +234,7 @@ module _ {ρ : World} {g : List ℕ} (i : Inv ρ g) (high low v w : ℕ) (c : Ca
         let j = joins z e in
         let s = k z j in
         ap (slice_means (ty.Bits w) o) s.1 ∙ low_valued w (s.0 / 2 ^ o)
-        ∙ ap some (sym (j.means ∙ s.2)),
+        ∙ ap Some (sym (j.means ∙ s.2)),
   )
 
   whole : (n : ℕ) → n % 2 ^ w ≡ n / 2 ^ 0 % 2 ^ w
@@ -259,7 +259,7 @@ module _ {ρ : World} {g : List ℕ} (i : Inv ρ g) (high low v w : ℕ) (c : Ca
 
   -- ---- two constants
 
-  joined_claim : (h l : ℕ) → v < 128 → literal g high ≡ some h → literal g low ≡ some l
+  joined_claim : (h l : ℕ) → v < 128 → literal g high ≡ Some h → literal g low ≡ Some l
       → Claims (plan.constant (ty.Bits w) (joined h l v))
   joined_claim h l q eh el =
       constant_claim (joined h l v)
@@ -297,11 +297,11 @@ module _ {ρ : World} {g : List ℕ} (i : Inv ρ g) (high low v w : ℕ) (c : Ca
             ∙ mod-mod (u / 2 ^ b.offset) (2 ^ w),
       ))
     where
-      cut : (n r k m o s : ℕ) → n < count_of g → value ρ g n ≡ some r → operation_at g n ≡ node.slice m o s → type_at g n ≡ ty.Bits k
-          → (u : ℕ) × (value ρ g m ≡ some u) × (r ≡ u / 2 ^ o % 2 ^ k)
+      cut : (n r k m o s : ℕ) → n < count_of g → value ρ g n ≡ Some r → operation_at g n ≡ node.slice m o s → type_at g n ≡ ty.Bits k
+          → (u : ℕ) × (value ρ g m ≡ Some u) × (r ≡ u / 2 ^ o % 2 ^ k)
       cut n r k m o s l er e et =
-          let f : slice_means (ty.Bits k) o (value ρ g m) ≡ some r =
-          subst (λ (t : ScalarType). slice_means t o (value ρ g m) ≡ some r) et (means_at ρ g i n l r er (node.slice m o s) e) in
+          let f : slice_means (ty.Bits k) o (value ρ g m) ≡ Some r =
+          subst (λ (t : ScalarType). slice_means t o (value ρ g m) ≡ Some r) et (means_at ρ g i n l r er (node.slice m o s) e) in
           let p = then_is (value ρ g m) (λ u. valued (ty.Bits k) (u / 2 ^ o)) r f in
           (p.0, p.1, (typed_is (ty.Bits k) (p.0 / 2 ^ o % 2 ^ k) r p.2).0)
 
@@ -323,10 +323,10 @@ module _ {ρ : World} {g : List ℕ} (i : Inv ρ g) (high low v w : ℕ) (c : Ca
         (λ z. concat_typed (ext_type e high c.2 z) (ext_type e low c.3 z) v w) ∙ c.4,
       ))
 
-  says : (f : Field) → fold_bitfield_concat g high low v w ≡ some f → (z : ℕ) (j : Joins ρ g high low v w z) → FieldSays ρ g (j.x * 2 ^ v + j.y) w f
+  says : (f : Field) → fold_bitfield_concat g high low v w ≡ Some f → (z : ℕ) (j : Joins ρ g high low v w z) → FieldSays ρ g (j.x * 2 ^ v + j.y) w f
   says f e z j = field_sound ρ g i high low v w j.x j.y c.2 c.3 j.left j.right c.4 c.1 f e
 
-  based_claim : (f : Field) → fold_bitfield_concat g high low v w ≡ some f → (b : ℕ) → f.base ≡ some b → same_type (type_at g b) (ty.Bits w) ≡ true
+  based_claim : (f : Field) → fold_bitfield_concat g high low v w ≡ Some f → (b : ℕ) → f.base ≡ Some b → same_type (type_at g b) (ty.Bits w) ≡ true
       → Firsts
       (tries (plan.masked (record { type = ty.Bits w; base = b; mask = f.keep; result = ty.Bits w; op = bi.Or; literal = f.literal }))
       (concat_rest high low v w))
@@ -343,16 +343,16 @@ module _ {ρ : World} {g : List ℕ} (i : Inv ρ g) (high low v w : ℕ) (c : Ca
           λ sure z q.
               let j = joins z q in
               let s = says f e z j in
-              let d : Gathers ρ g (j.x * 2 ^ v + j.y) (some b) f.keep f.literal =
+              let d : Gathers ρ g (j.x * 2 ^ v + j.y) (Some b) f.keep f.literal =
               subst (λ (o : Option ℕ). Gathers ρ g (j.x * 2 ^ v + j.y) o f.keep f.literal) eb s.says in
               (λ k.
-              binary_means (ty.Bits w) bi.Or (binary_means (ty.Bits w) bi.And (d.2 k) (some (f.keep % 2 ^ w))) (some (f.literal % 2 ^ w)))
+              binary_means (ty.Bits w) bi.Or (binary_means (ty.Bits w) bi.And (d.2 k) (Some (f.keep % 2 ^ w))) (Some (f.literal % 2 ^ w)))
               ∙ masked-means w d.1 f.keep f.literal z s.keep s.literal (j.means ∙ ap (λ (n : ℕ). n % 2 ^ w) d.3),
         ),
         rest_claim,
       )
 
-  field_claim : (f : Field) → fold_bitfield_concat g high low v w ≡ some f
+  field_claim : (f : Field) → fold_bitfield_concat g high low v w ≡ Some f
       → Firsts (field_plan g high low v w f)
   field_claim f e =
       by_given Firsts f.base
@@ -368,9 +368,9 @@ module _ {ρ : World} {g : List ℕ} (i : Inv ρ g) (high low v w : ℕ) (c : Ca
   open_claim : (a b : Option Cut) → cut_of (operation_at g high) ≡ a → cut_of (operation_at g low) ≡ b
       → Firsts (concat_field g high low v w)
       → Firsts (given (adjacent a b v w) does (concat_field g high low v w))
-  open_claim none b p q k = k
-  open_claim (some a) none p q k = k
-  open_claim (some a) (some b) p q k = go (eqb a.value b.value && eqb a.offset (b.offset + v)) refl
+  open_claim None b p q k = k
+  open_claim (Some a) None p q k = k
+  open_claim (Some a) (Some b) p q k = go (eqb a.value b.value && eqb a.offset (b.offset + v)) refl
     where
       go : (t : Bool) → eqb a.value b.value && eqb a.offset (b.offset + v) ≡ t
           → Firsts
@@ -386,9 +386,9 @@ module _ {ρ : World} {g : List ℕ} (i : Inv ρ g) (high low v w : ℕ) (c : Ca
   constants_claim : v < 128 → (h l : Option ℕ) → literal g high ≡ h → literal g low ≡ l
       → Firsts (concat_open g high low v w)
       → Firsts (given (joined_plan h l v w) does (concat_open g high low v w))
-  constants_claim q none l eh el k = k
-  constants_claim q (some h) none eh el k = k
-  constants_claim q (some h) (some l) eh el k = joined_claim h l q eh el
+  constants_claim q None l eh el k = k
+  constants_claim q (Some h) None eh el k = k
+  constants_claim q (Some h) (Some l) eh el k = joined_claim h l q eh el
 
   pub concat_first_claim : FirstClaim ρ g (ty.Bits w) (concat_means (ty.Bits w) v (value ρ g high) (value ρ g low)) (concat_first g high low v w)
   unfolding concat_first

@@ -3,7 +3,7 @@ use mathlib.Core.Path.{◌≡◌, refl, sym, ap, ◌∙◌, subst}
 use mathlib.Core.Bool.{Bool, true, false, cond, false≢true}
 use mathlib.Core.List.{List}
 use mathlib.Core.Logic.{⊎_elim}
-use mathlib.Core.Option.{Option, none, some}
+use Rattle.std.specs.Prelude.{Option, None, Some}
 use Prim.Native.Nat.{ℕ, ◌%◌, ◌^◌, ◌≤◌, ◌<◌}
 use native.Mathlib.Nat.{mod-lt, mod-eq_of_lt, lt_of_lt_of_le, le_refl}
 use native.Mathlib.Omega.{arith}
@@ -50,11 +50,11 @@ reduced_same ty.Bool c h = refl
 reduced_same (ty.Bits w) c h = mod-eq_of_lt h
 reduced_same ty.Integer c h = refl
 
-pub valued_same : (t : ScalarType) (c : ℕ) → c < size t → valued t c ≡ some c
+pub valued_same : (t : ScalarType) (c : ℕ) → c < size t → valued t c ≡ Some c
 valued_same t c h = ap (λ (n : ℕ). of_type t n) (reduced_same t c h) ∙ typed_of t c h
 
 -- a value of Bits(w) by its low bits
-pub low_valued : (w c : ℕ) → valued (ty.Bits w) c ≡ some (c % 2 ^ w)
+pub low_valued : (w c : ℕ) → valued (ty.Bits w) c ≡ Some (c % 2 ^ w)
 low_valued w c = typed_of (ty.Bits w) (c % 2 ^ w) (mod-lt c (pow_pos w))
 
 -- ---- ranges
@@ -67,20 +67,20 @@ signed_parts c h e =
     (lt-or-ge c (2 ^ 127))
 
 module _ (t : ScalarType) (c : ℕ) (l : type_width t ≤ 128) (h : c < size t) where
-  pub constant-ends : (a : Interval) → constant_interval t c ≡ some a → Ends a
+  pub constant-ends : (a : Interval) → constant_interval t c ≡ Some a → Ends a
   constant-ends a e = by t e
     where
       small : mag (signed 128 c) < 2 ^ 127
       small = signed_mag 128 c (lit< tt) (pattern t c l h)
 
-      here : some (point (signed 128 c)) ≡ some a → Ends a
+      here : Some (point (signed 128 c)) ≡ Some a → Ends a
       here q = let p : point (signed 128 c) ≡ a = cc in subst Ends p (record { low = small; high = small })
 
-      maybe : (b : Bool) → cond b none (some (point (signed 128 c))) ≡ some a → Ends a
+      maybe : (b : Bool) → cond b None (Some (point (signed 128 c))) ≡ Some a → Ends a
       maybe true q = absurd (none-some q)
       maybe false q = here q
 
-      by : (s : ScalarType) → constant_interval s c ≡ some a → Ends a
+      by : (s : ScalarType) → constant_interval s c ≡ Some a → Ends a
       by ty.Bool q = here q
       by (ty.Bits w) q = maybe (is_neg (signed 128 c)) q
       by ty.Integer q = here q
@@ -88,32 +88,32 @@ module _ (t : ScalarType) (c : ℕ) (l : type_width t ≤ 128) (h : c < size t) 
   pub constant-within : Within t c (constant_interval t c)
   constant-within a e = by t refl e
     where
-      here : (z : ℤ) → z ≡ signed 128 c → some (point (signed 128 c)) ≡ some a → z ∈ a
+      here : (z : ℤ) → z ≡ signed 128 c → Some (point (signed 128 c)) ≡ Some a → z ∈ a
       here z p q = let r : point z ≡ a = ap point p ∙ some_is q in subst (λ (b : Interval). z ∈ b) r (point_in z)
 
-      maybe : (b : Bool) → is_neg (signed 128 c) ≡ b → cond b none (some (point (signed 128 c))) ≡ some a → (pos c) ∈ a
+      maybe : (b : Bool) → is_neg (signed 128 c) ≡ b → cond b None (Some (point (signed 128 c))) ≡ Some a → (pos c) ∈ a
       maybe true p q = absurd (none-some q)
       maybe false p q = here (pos c) (sym (signed_parts c (pattern t c l h) p)) q
 
-      by : (s : ScalarType) → t ≡ s → constant_interval s c ≡ some a → (integer_of s c) ∈ a
+      by : (s : ScalarType) → t ≡ s → constant_interval s c ≡ Some a → (integer_of s c) ∈ a
       by ty.Bool p q = here (pos c) (sym (signed_low 128 c (lt_of_lt_of_le (subst (λ (s : ScalarType). c < size s) p h) (pow_mono {i = 1} {j = 127} (omega arith))))) q
       by (ty.Bits w) p q = maybe (is_neg (signed 128 c)) refl q
       by ty.Integer p q = here (signed 128 c) refl q
 
-  pub constant_valid : (a : Interval) → constant_interval t c ≡ some a → Valid t a
+  pub constant_valid : (a : Interval) → constant_interval t c ≡ Some a → Valid t a
   constant_valid a e = by t refl e
     where
-      here : (s : ScalarType) → inside_type s (point (signed 128 c)) ≡ true → some (point (signed 128 c)) ≡ some a → Valid s a
+      here : (s : ScalarType) → inside_type s (point (signed 128 c)) ≡ true → Some (point (signed 128 c)) ≡ Some a → Valid s a
       here s i q = subst (Valid s) (some_is q) (record { full = ≤ℤ_refl (signed 128 c); inside = i })
 
       bits : (w : ℕ) → c < 2 ^ w → signed 128 c ≡ pos c → inside_bits w (point (signed 128 c)) ≡ true
       bits w k p = ap (λ (z : ℤ). inside_bits w (point z)) p ∙ point_inside w c k
 
-      maybe : (w : ℕ) → c < 2 ^ w → (b : Bool) → is_neg (signed 128 c) ≡ b → cond b none (some (point (signed 128 c))) ≡ some a → Valid (ty.Bits w) a
+      maybe : (w : ℕ) → c < 2 ^ w → (b : Bool) → is_neg (signed 128 c) ≡ b → cond b None (Some (point (signed 128 c))) ≡ Some a → Valid (ty.Bits w) a
       maybe w k true p q = absurd (none-some q)
       maybe w k false p q = here (ty.Bits w) (bits w k (signed_parts c (pattern t c l h) p)) q
 
-      by : (s : ScalarType) → t ≡ s → constant_interval s c ≡ some a → Valid s a
+      by : (s : ScalarType) → t ≡ s → constant_interval s c ≡ Some a → Valid s a
       by ty.Bool p q =
           let k : c < 2 = subst (λ (s : ScalarType). c < size s) p h in
           here ty.Bool (bits 1 k (signed_low 128 c (lt_of_lt_of_le k (pow_mono {i = 1} {j = 127} (omega arith))))) q
@@ -123,19 +123,19 @@ module _ (t : ScalarType) (c : ℕ) (l : type_width t ≤ 128) (h : c < size t) 
 -- ---- storing
 
 -- the ends of a range that is stored, 0 without one
-stored_end : (f : Option Interval → ℤ) → f none ≡ pos 0 → ((a : Interval) → Ends a → mag (f (some a)) < 2 ^ 127) → (r : Option Interval)
-    → ((a : Interval) → r ≡ some a → Ends a) → mag (f r) < 2 ^ 127
-stored_end f z k none e = rw z (pow_pos 127)
-stored_end f z k (some a) e = k a (e a refl)
+stored_end : (f : Option Interval → ℤ) → f None ≡ pos 0 → ((a : Interval) → Ends a → mag (f (Some a)) < 2 ^ 127) → (r : Option Interval)
+    → ((a : Interval) → r ≡ Some a → Ends a) → mag (f r) < 2 ^ 127
+stored_end f z k None e = rw z (pow_pos 127)
+stored_end f z k (Some a) e = k a (e a refl)
 
-pub stored_low : (r : Option Interval) → ((a : Interval) → r ≡ some a → Ends a) → mag (low_end r) < 2 ^ 127
+pub stored_low : (r : Option Interval) → ((a : Interval) → r ≡ Some a → Ends a) → mag (low_end r) < 2 ^ 127
 stored_low = stored_end low_end refl (λ a e. e.low)
 
-pub stored_high : (r : Option Interval) → ((a : Interval) → r ≡ some a → Ends a) → mag (high_end r) < 2 ^ 127
+pub stored_high : (r : Option Interval) → ((a : Interval) → r ≡ Some a → Ends a) → mag (high_end r) < 2 ^ 127
 stored_high = stored_end high_end refl (λ a e. e.high)
 
 module _ (ρ : World) (g : List ℕ) (t : ScalarType) (c : ℕ) (l : type_width t ≤ 128) (h : c < size t) where
-  pub constant-means : operation_means ρ t (node.constant c) (operand ρ g) ≡ some c
+  pub constant-means : operation_means ρ t (node.constant c) (operand ρ g) ≡ Some c
   constant-means = valued_same t c h
 
   pub constant_storable : Storable ρ g t (constant_interval t c) (node.constant c)

@@ -20,14 +20,14 @@ use Rattle.meaning.proofs.Mapping.{renumbers, kept_value, marked-retain}
 use Rattle.meaning.proofs.Play.{Whole, play_whole}
 use Rattle.meaning.proofs.Tested.{range_sound}
 
-module _ (ρ : Env) (m : List ℕ) (none : Unmarked m) (calls : List Action) where
+module _ (ρ : Env) (m : List ℕ) (None : Unmarked m) (calls : List Action) where
   -- what the calls leave
   abbrev end : History
   end = play ρ m calls
 
   -- the invariant, and every line right where the conditions are met, now and at each mark that stands
   pub whole : Whole ρ (play ρ m calls)
-  whole = play_whole builds (λ w. range_sound w (builds w)) ρ m none calls
+  whole = play_whole builds (λ w. range_sound w (builds w)) ρ m None calls
 
   -- ---- whatever the values
 

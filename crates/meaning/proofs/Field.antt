@@ -3,7 +3,7 @@ use mathlib.Core.Path.{◌≡◌, refl, sym, ap, ◌∙◌, subst}
 use mathlib.Core.Bool.{Bool, true, false, cond, not, ◌&&◌, ◌||◌}
 use mathlib.Core.List.{List}
 use mathlib.Core.Logic.{◌⊎◌, inl, inr, ⊎_elim}
-use mathlib.Core.Option.{Option, none, some}
+use Rattle.std.specs.Prelude.{Option, None, Some}
 use Prim.Native.Nat.{ℕ, zero, suc, min, max, ◌+◌, ◌-◌, ◌*◌, ◌/◌, ◌%◌, ◌^◌, ◌≤◌, ◌<◌}
 use native.Mathlib.Decide.{dec_lt}
 use native.Mathlib.Nat.{mod-lt, mod-eq_of_lt, zero-add, add-zero, one-mul, two-pow-succ, lt_of_le_of_lt}
@@ -47,13 +47,13 @@ use Rattle.meaning.proofs.Views.{same_type_lem, value_small}
 -- of bit i of v
 abbrev pub Says : World → List ℕ → ℕ → ℕ → Bit → Type 0
 Says ρ g v i (known b) = bit v i ≡ from_bool b
-Says ρ g v i (source m j) = (m < count_of g) × (u : ℕ) × (value ρ g m ≡ some u) × (bit v i ≡ bit u j)
+Says ρ g v i (source m j) = (m < count_of g) × (u : ℕ) × (value ρ g m ≡ Some u) × (bit v i ≡ bit u j)
 
 -- by one step
 abbrev StepSays : World → List ℕ → ℕ → ℕ → BitStep → Type 0
 StepSays ρ g v i (here b) = Says ρ g v i b
-StepSays ρ g v i (from p j) = (p < count_of g) × (u : ℕ) × (value ρ g p ≡ some u) × (bit v i ≡ bit u j)
-StepSays ρ g v i (flipped p j) = (p < count_of g) × (u : ℕ) × (value ρ g p ≡ some u) × (bit v i ≡ 1 - bit u j)
+StepSays ρ g v i (from p j) = (p < count_of g) × (u : ℕ) × (value ρ g p ≡ Some u) × (bit v i ≡ bit u j)
+StepSays ρ g v i (flipped p j) = (p < count_of g) × (u : ℕ) × (value ρ g p ≡ Some u) × (bit v i ≡ 1 - bit u j)
 
 says_same : (ρ : World) (g : List ℕ) (v u i j : ℕ) (b : Bit) → bit v i ≡ bit u j → Says ρ g u j b → Says ρ g v i b
 says_same ρ g v u i j (known b) e h = e ∙ h
@@ -69,7 +69,7 @@ set_is v i = go (has_bit v i) refl (mod-lt (v / 2 ^ i) (omega arith))
     go true e l = sym (eqb-true (v / 2 ^ i % 2) 1 e)
     go false e l = omega (arith, eqb-false (v / 2 ^ i % 2) 1 e)
 
-valued-bit : (t : ScalarType) (z v i : ℕ) → valued t z ≡ some v → above t i ≡ false → bit v i ≡ bit z i
+valued-bit : (t : ScalarType) (z v i : ℕ) → valued t z ≡ Some v → above t i ≡ false → bit v i ≡ bit z i
 valued-bit ty.Bool z v i e a = ap (λ (n : ℕ). bit n i) (typed_is ty.Bool z v e).0
 valued-bit (ty.Bits w) z v i e a = ap (λ (n : ℕ). bit n i) (typed_is (ty.Bits w) (z % 2 ^ w) v e).0 ∙ bit-mod z w i (leb-false w i a)
 valued-bit ty.Integer z v i e a = ap (λ (n : ℕ). bit n i) (typed_is ty.Integer z v e).0
@@ -88,7 +88,7 @@ past_zero ty.Integer v i q l e = bit_big v 128 i l e
 
 module _ (ρ : World) (g : List ℕ) (inv : Inv ρ g) where
   -- what a node of this operation means
-  pub means_at : (n : ℕ) → n < count_of g → (v : ℕ) → value ρ g n ≡ some v → (o : Op) → operation_at g n ≡ o → operation_means ρ (type_at g n) o (operand ρ g) ≡ some v
+  pub means_at : (n : ℕ) → n < count_of g → (v : ℕ) → value ρ g n ≡ Some v → (o : Op) → operation_at g n ≡ o → operation_means ρ (type_at g n) o (operand ρ g) ≡ Some v
   means_at n l v ev o e = sym (inv_step inv n l ∙ ap (λ (p : Op). operation_means ρ (type_at g n) p (operand ρ g)) e) ∙ ev
 
   pub below_at : (n : ℕ) → n < count_of g → (o : Op) → operation_at g n ≡ o → start o ≤ n
@@ -97,17 +97,17 @@ module _ (ρ : World) (g : List ℕ) (inv : Inv ρ g) where
   pub typed_at : (n : ℕ) → n < count_of g → (o : Op) → operation_at g n ≡ o → Typed g (type_at g n) o
   typed_at n l o e = subst (λ (p : Op). Typed g (type_at g n) p) e (inv.typed n l)
 
-  constant-value : (n c : ℕ) → n < count_of g → operation_at g n ≡ node.constant c → value ρ g n ≡ some c
+  constant-value : (n c : ℕ) → n < count_of g → operation_at g n ≡ node.constant c → value ρ g n ≡ Some c
   constant-value n c l e =
       let s : c < size (type_at g n) = typed_at n l (node.constant c) e in
       inv_step inv n l ∙ ap (λ (p : Op). operation_means ρ (type_at g n) p (operand ρ g)) e ∙ ap (of_type (type_at g n)) (reduced_same (type_at g n) c s)
       ∙ typed_of (type_at g n) c s
 
-  pub literal-value : (n c : ℕ) → n < count_of g → literal g n ≡ some c → value ρ g n ≡ some c
+  pub literal-value : (n c : ℕ) → n < count_of g → literal g n ≡ Some c → value ρ g n ≡ Some c
   unfolding literal
   literal-value n c l e = go (operation_at g n) refl e
     where
-      go : (o : Op) → operation_at g n ≡ o → literal_of o ≡ some c → value ρ g n ≡ some c
+      go : (o : Op) → operation_at g n ≡ o → literal_of o ≡ Some c → value ρ g n ≡ Some c
       go (node.constant d) q e = constant-value n d l q ∙ e
       go (node.input i) q e = absurd (none-some e)
       go (node.refine i) q e = absurd (none-some e)
@@ -117,36 +117,36 @@ module _ (ρ : World) (g : List ℕ) (inv : Inv ρ g) where
       go (node.unary u i) q e = absurd (none-some e)
       go (node.binary b i j) q e = absurd (none-some e)
 
-pub literal_below : {ρ : World} {g : List ℕ} (i : Inv ρ g) (n c : ℕ) (t : ScalarType) → n < count_of g → type_at g n ≡ t → literal g n ≡ some c → c < size t
+pub literal_below : {ρ : World} {g : List ℕ} (i : Inv ρ g) (n c : ℕ) (t : ScalarType) → n < count_of g → type_at g n ≡ t → literal g n ≡ Some c → c < size t
 literal_below {ρ} {g} i n c t l q e = subst (λ (s : ScalarType). c < size s) q (value_small i n l c (literal-value ρ g i n c l e))
 
 -- the operands of a binary operation with a value
 pub record Operands (ρ : World) (g : List ℕ) (t : ScalarType) (o : Binary) (i j v : ℕ) : Type 0 where
   pub x : ℕ
   pub y : ℕ
-  pub left : value ρ g i ≡ some x
-  pub right : value ρ g j ≡ some y
-  pub means : and_then (binary_value o t x y) (of_type t) ≡ some v
+  pub left : value ρ g i ≡ Some x
+  pub right : value ρ g j ≡ Some y
+  pub means : and_then (binary_value o t x y) (of_type t) ≡ Some v
 
-pub operands : (ρ : World) (g : List ℕ) (t : ScalarType) (o : Binary) (i j v : ℕ) → binary_means t o (value ρ g i) (value ρ g j) ≡ some v → Operands ρ g t o i j v
+pub operands : (ρ : World) (g : List ℕ) (t : ScalarType) (o : Binary) (i j v : ℕ) → binary_means t o (value ρ g i) (value ρ g j) ≡ Some v → Operands ρ g t o i j v
 operands ρ g t o i j v e =
     let p = then_is (value ρ g i) (λ x. and_then (value ρ g j) (λ y. and_then (binary_value o t x y) (of_type t))) v e in
     let q = then_is (value ρ g j) (λ y. and_then (binary_value o t p.0 y) (of_type t)) v p.2 in
     record { x = p.0; y = q.0; left = p.1; right = q.1; means = q.2 }
 
-and-means : (t : ScalarType) (x y v : ℕ) → and_then (binary_value bi.And t x y) (of_type t) ≡ some v → valued t (bit_and x y) ≡ some v
+and-means : (t : ScalarType) (x y v : ℕ) → and_then (binary_value bi.And t x y) (of_type t) ≡ Some v → valued t (bit_and x y) ≡ Some v
 unfolding binary_value
 and-means t x y v e = e
 
-or-means : (t : ScalarType) (x y v : ℕ) → and_then (binary_value bi.Or t x y) (of_type t) ≡ some v → valued t (bit_or x y) ≡ some v
+or-means : (t : ScalarType) (x y v : ℕ) → and_then (binary_value bi.Or t x y) (of_type t) ≡ Some v → valued t (bit_or x y) ≡ Some v
 unfolding binary_value
 or-means t x y v e = e
 
-xor-means : (t : ScalarType) (x y v : ℕ) → and_then (binary_value bi.Xor t x y) (of_type t) ≡ some v → valued t (bit_xor x y) ≡ some v
+xor-means : (t : ScalarType) (x y v : ℕ) → and_then (binary_value bi.Xor t x y) (of_type t) ≡ Some v → valued t (bit_xor x y) ≡ Some v
 unfolding binary_value
 xor-means t x y v e = e
 
-truncated-means : (t : ScalarType) (w x v : ℕ) → and_then (unary_value (un.Truncate w) x) (valued t) ≡ some v → valued t (x % 2 ^ w) ≡ some v
+truncated-means : (t : ScalarType) (w x v : ℕ) → and_then (unary_value (un.Truncate w) x) (valued t) ≡ Some v → valued t (x % 2 ^ w) ≡ Some v
 unfolding unary_value
 truncated-means t w x v e = e
 
@@ -164,15 +164,15 @@ sides a b v w e =
 
 -- ---- one step
 
-module _ (ρ : World) (g : List ℕ) (inv : Inv ρ g) (n i v : ℕ) (l : n < count_of g) (ev : value ρ g n ≡ some v) (a : above (type_at g n) i ≡ false) where
+module _ (ρ : World) (g : List ℕ) (inv : Inv ρ g) (n i v : ℕ) (l : n < count_of g) (ev : value ρ g n ≡ Some v) (a : above (type_at g n) i ≡ false) where
   own : Says ρ g v i (source n i)
   own = (l, v, ev, refl)
 
   -- the left operand of b with a constant, where b is f on single bits
-  masked : (o b : Binary) (p q c : ℕ) → operation_at g n ≡ node.binary o p q → literal g q ≡ some c → same_binary o b ≡ true → (h f : ℕ → ℕ → ℕ)
-      → ((x y : ℕ) → and_then (binary_value b (type_at g n) x y) (of_type (type_at g n)) ≡ some v → valued (type_at g n) (h x y) ≡ some v)
+  masked : (o b : Binary) (p q c : ℕ) → operation_at g n ≡ node.binary o p q → literal g q ≡ Some c → same_binary o b ≡ true → (h f : ℕ → ℕ → ℕ)
+      → ((x y : ℕ) → and_then (binary_value b (type_at g n) x y) (of_type (type_at g n)) ≡ Some v → valued (type_at g n) (h x y) ≡ Some v)
       → ((x y i : ℕ) → bit (h x y) i ≡ f (bit x i) (bit y i))
-      → (x : ℕ) × (p < count_of g) × (value ρ g p ≡ some x) × (bit v i ≡ f (bit x i) (from_bool (has_bit c i)))
+      → (x : ℕ) × (p < count_of g) × (value ρ g p ≡ Some x) × (bit v i ≡ f (bit x i) (from_bool (has_bit c i)))
   masked o b p q c e lit same h f means bits =
       let d = e ∙ ap (λ (a : Binary). node.binary a p q) (binary_is o b same) in
       let under = below_at ρ g inv n l (node.binary b p q) d in
@@ -185,7 +185,7 @@ module _ (ρ : World) (g : List ℕ) (inv : Inv ρ g) (n i v : ℕ) (l : n < cou
             ∙ ap (f (bit s.x i)) (ap (λ (z : ℕ). bit z i) yc ∙ sym (set_is c i)),
       )
 
-  module _ (p x : ℕ) (b : p < count_of g) (ex : value ρ g p ≡ some x) where
+  module _ (p x : ℕ) (b : p < count_of g) (ex : value ρ g p ≡ Some x) where
     and_says : (h : Bool) → bit v i ≡ min (bit x i) (from_bool h) → StepSays ρ g v i (cond h (from p i) (here (known false)))
     and_says true f = (b, x, ex, omega (arith, bit-lt x i))
     and_says false f = omega arith
@@ -198,7 +198,7 @@ module _ (ρ : World) (g : List ℕ) (inv : Inv ρ g) (n i v : ℕ) (l : n < cou
     xor_says true f = (b, x, ex, omega (arith, bit-lt x i))
     xor_says false f = (b, x, ex, omega (arith, bit-lt x i))
 
-  masked_says : (o : Binary) (p q c : ℕ) → operation_at g n ≡ node.binary o p q → literal g q ≡ some c
+  masked_says : (o : Binary) (p q c : ℕ) → operation_at g n ≡ node.binary o p q → literal g q ≡ Some c
       → StepSays ρ g v i (masked_bit o n (has_bit c i) p i)
   masked_says o p q c e lit =
       by_test (StepSays ρ g v i) (same_binary o bi.And)
@@ -217,7 +217,7 @@ module _ (ρ : World) (g : List ℕ) (inv : Inv ρ g) (n i v : ℕ) (l : n < cou
       let s = then_is (value ρ g p) (λ x. and_then (unary_value (un.Truncate w) x) (valued (type_at g n))) v (means_at ρ g inv n l v ev (node.unary (un.Truncate w) p) e) in
       go s.0 s.1 (valued-bit (type_at g n) (s.0 % 2 ^ w) v i (truncated-means (type_at g n) w s.0 v s.2) a) (ltb i w) refl
     where
-      go : (x : ℕ) → value ρ g p ≡ some x → bit v i ≡ bit (x % 2 ^ w) i → (t : Bool) → ltb i w ≡ t → StepSays ρ g v i (cond t (from p i) (here (known false)))
+      go : (x : ℕ) → value ρ g p ≡ Some x → bit v i ≡ bit (x % 2 ^ w) i → (t : Bool) → ltb i w ≡ t → StepSays ρ g v i (cond t (from p i) (here (known false)))
       go x ex f true q =
           let b = below_at ρ g inv n l (node.unary (un.Truncate w) p) e in
           (omega arith, x, ex, f ∙ bit-mod x w i (ltb-true i w q))
@@ -238,7 +238,7 @@ module _ (ρ : World) (g : List ℕ) (inv : Inv ρ g) (n i v : ℕ) (l : n < cou
       let s = then_is (value ρ g p) (λ x. valued (type_at g n) (x / 2 ^ o)) v (means_at ρ g inv n l v ev (node.slice p o w) e) in
       go s.0 s.1 (valued-bit (type_at g n) (s.0 / 2 ^ o) v i s.2 a ∙ bit-shr s.0 o i) (leb w i) refl
     where
-      go : (x : ℕ) → value ρ g p ≡ some x → bit v i ≡ bit x (o + i) → (t : Bool) → leb w i ≡ t → StepSays ρ g v i (cond t (here (known false)) (from p (o + i)))
+      go : (x : ℕ) → value ρ g p ≡ Some x → bit v i ≡ bit x (o + i) → (t : Bool) → leb w i ≡ t → StepSays ρ g v i (cond t (here (known false)) (from p (o + i)))
       go x ex f true q =
           let t : type_at g n ≡ ty.Bits w = typed_at ρ g inv n l (node.slice p o w) e in
           bit_big v w i (subst (λ (k : ScalarType). v < size k) t (value_small inv n l v ev)) (leb-true w i q)
@@ -254,7 +254,7 @@ module _ (ρ : World) (g : List ℕ) (inv : Inv ρ g) (n i v : ℕ) (l : n < cou
       let small : r.0 < 2 ^ w = subst (λ (c : ScalarType). r.0 < size c) d.low (value_small inv k (omega arith) r.0 r.1) in
       go s.0 r.0 s.1 r.1 small (valued-bit (type_at g n) (s.0 * 2 ^ w + r.0) v i r.2 a) (ltb i w) refl
     where
-      go : (x y : ℕ) → value ρ g h ≡ some x → value ρ g k ≡ some y → y < 2 ^ w → bit v i ≡ bit (x * 2 ^ w + y) i → (t : Bool) → ltb i w ≡ t
+      go : (x y : ℕ) → value ρ g h ≡ Some x → value ρ g k ≡ Some y → y < 2 ^ w → bit v i ≡ bit (x * 2 ^ w + y) i → (t : Bool) → ltb i w ≡ t
           → StepSays ρ g v i (cond t (from k i) (from h (i - w)))
       go x y ex ey small f true q =
           let b = below_at ρ g inv n l (node.concat h k w) e in
@@ -267,13 +267,13 @@ module _ (ρ : World) (g : List ℕ) (inv : Inv ρ g) (n i v : ℕ) (l : n < cou
   op_says (node.binary o p q) e = go (literal g q) refl
     where
       go : (x : Option ℕ) → literal g q ≡ x → StepSays ρ g v i (given x (λ c. masked_bit o n (has_bit c i) p i) (here (source n i)))
-      go none d = own
-      go (some c) d = masked_says o p q c e d
+      go None d = own
+      go (Some c) d = masked_says o p q c e d
 
 -- ---- the walk
 
 module _ (ρ : World) (g : List ℕ) (inv : Inv ρ g) where
-  step_says : (n i v : ℕ) → n < count_of g → value ρ g n ≡ some v → StepSays ρ g v i (bit_step g n i)
+  step_says : (n i v : ℕ) → n < count_of g → value ρ g n ≡ Some v → StepSays ρ g v i (bit_step g n i)
   unfolding bit_step
   step_says n i v l ev = go (leb 128 i) refl (above (type_at g n) i) refl
     where
@@ -282,22 +282,22 @@ module _ (ρ : World) (g : List ℕ) (inv : Inv ρ g) where
       go false p true q = above_zero (type_at g n) v i (value_small inv n l v ev) q
       go false p false q = op_says ρ g inv n i v l ev q (operation_at g n) refl
 
-  turned_says : (v u i j : ℕ) (o : Option Bit) → bit v i ≡ 1 - bit u j → ((b : Bit) → o ≡ some b → Says ρ g u j b) → (b : Bit) → negated_bit o ≡ some b
+  turned_says : (v u i j : ℕ) (o : Option Bit) → bit v i ≡ 1 - bit u j → ((b : Bit) → o ≡ Some b → Says ρ g u j b) → (b : Bit) → negated_bit o ≡ Some b
       → Says ρ g v i b
-  turned_says v u i j none f h b e = absurd (none-some e)
-  turned_says v u i j (some (known true)) f h b e = subst (λ (c : Bit). Says ρ g v i c) (some_is e) (omega (arith, h (known true) refl))
-  turned_says v u i j (some (known false)) f h b e = subst (λ (c : Bit). Says ρ g v i c) (some_is e) (omega (arith, h (known false) refl))
-  turned_says v u i j (some (source m k)) f h b e = absurd (none-some e)
+  turned_says v u i j None f h b e = absurd (none-some e)
+  turned_says v u i j (Some (known true)) f h b e = subst (λ (c : Bit). Says ρ g v i c) (some_is e) (omega (arith, h (known true) refl))
+  turned_says v u i j (Some (known false)) f h b e = subst (λ (c : Bit). Says ρ g v i c) (some_is e) (omega (arith, h (known false) refl))
+  turned_says v u i j (Some (source m k)) f h b e = absurd (none-some e)
 
   reached_says : (v i : ℕ) (s : BitStep) (r : ℕ → ℕ → Option Bit) → StepSays ρ g v i s
-      → ((n j u : ℕ) → n < count_of g → value ρ g n ≡ some u → (b : Bit) → r n j ≡ some b → Says ρ g u j b)
-      → (b : Bit) → reached s r ≡ some b → Says ρ g v i b
+      → ((n j u : ℕ) → n < count_of g → value ρ g n ≡ Some u → (b : Bit) → r n j ≡ Some b → Says ρ g u j b)
+      → (b : Bit) → reached s r ≡ Some b → Says ρ g v i b
   reached_says v i (here c) r h ih b e = subst (λ (c : Bit). Says ρ g v i c) (some_is e) h
   reached_says v i (from p j) r h ih b e = says_same ρ g v h.1 i j b h.3 (ih p j h.1 h.0 h.2 b e)
   reached_says v i (flipped p j) r h ih b e = turned_says v h.1 i j (r p j) h.3 (λ c q. ih p j h.1 h.0 h.2 c q) b e
 
   -- what the walk tells is so
-  pub bit_sound : (k n i v : ℕ) → n < count_of g → value ρ g n ≡ some v → (b : Bit) → bit_at g k n i ≡ some b → Says ρ g v i b
+  pub bit_sound : (k n i v : ℕ) → n < count_of g → value ρ g n ≡ Some v → (b : Bit) → bit_at g k n i ≡ Some b → Says ρ g v i b
   unfolding bit_at
   bit_sound zero n i v l ev b e = absurd (none-some e)
   bit_sound (suc k) n i v l ev b e = reached_says v i (bit_step g n i) (bit_at g k) (step_says n i v l ev) (λ m j u. bit_sound k m j u) b e
@@ -327,21 +327,21 @@ one_more_lem i j l P a b = go (dec_lt j i)
 
 -- the value of the node that bits come from, if there is one yet
 abbrev From : World → List ℕ → Option ℕ → ℕ → Type 0
-From ρ g none u = Unit {0}
-From ρ g (some m) u = (m < count_of g) × (value ρ g m ≡ some u)
+From ρ g None u = Unit {0}
+From ρ g (Some m) u = (m < count_of g) × (value ρ g m ≡ Some u)
 
 -- the i lowest bits of x
 record Parts (ρ : World) (g : List ℕ) (x i : ℕ) (o : Option ℕ) (keep lit : ℕ) : Type 0 where
   pub base : ℕ
   origin : From ρ g o base
-  bare : o ≡ none → keep ≡ 0
+  bare : o ≡ None → keep ≡ 0
   small : (keep < 2 ^ i) × (lit < 2 ^ i)
   places : (j : ℕ) → j < i → bit x j ≡ max (min (bit base j) (bit keep j)) (bit lit j)
 
 -- what a whole field tells of x
 abbrev pub Gathers : World → List ℕ → ℕ → Option ℕ → ℕ → ℕ → Type 0
-Gathers ρ g x none keep lit = x ≡ lit
-Gathers ρ g x (some m) keep lit = (m < count_of g) × (u : ℕ) × (value ρ g m ≡ some u) × (x ≡ bit_or (bit_and u keep) lit)
+Gathers ρ g x None keep lit = x ≡ lit
+Gathers ρ g x (Some m) keep lit = (m < count_of g) × (u : ℕ) × (value ρ g m ≡ Some u) × (x ≡ bit_or (bit_and u keep) lit)
 
 pub record FieldSays (ρ : World) (g : List ℕ) (x w : ℕ) (f : Field) : Type 0 where
   pub keep : f.keep < 2 ^ w
@@ -350,9 +350,9 @@ pub record FieldSays (ρ : World) (g : List ℕ) (x w : ℕ) (f : Field) : Type 
 
 module _ (ρ : World) (g : List ℕ) (x i : ℕ) where
   -- a bit of a node: of the one so far, or of the first
-  kept_place : (m u keep lit : ℕ) (o : Option ℕ) → Parts ρ g x i o keep lit → m < count_of g → value ρ g m ≡ some u → bit x i ≡ bit u i
-      → same_base o m ≡ true → Parts ρ g x (suc i) (some m) (1 * 2 ^ i + keep) lit
-  kept_place m u keep lit none h lm eu b q =
+  kept_place : (m u keep lit : ℕ) (o : Option ℕ) → Parts ρ g x i o keep lit → m < count_of g → value ρ g m ≡ Some u → bit x i ≡ bit u i
+      → same_base o m ≡ true → Parts ρ g x (suc i) (Some m) (1 * 2 ^ i + keep) lit
+  kept_place m u keep lit None h lm eu b q =
       let z : keep ≡ 0 = h.bare refl in
       let s = h.small in
       let lk = s.0 in
@@ -367,7 +367,7 @@ module _ (ρ : World) (g : List ℕ) (x i : ℕ) where
             (λ p. omega (arith, h.places j p, set_below keep i j lk p, ap (λ (y : ℕ). bit y j) z, bit-zero j))
             (omega (arith, b, set_here keep i lk, bit_big lit i i ll (omega arith), bit-lt u i));
       }
-  kept_place m u keep lit (some c) h lm eu b q =
+  kept_place m u keep lit (Some c) h lm eu b q =
       let e : c ≡ m = eqb-true c m q in
       let ub : h.base ≡ u = some_is (sym h.origin.1 ∙ ap (value ρ g) e ∙ eu) in
       let s = h.small in
@@ -415,7 +415,7 @@ module _ (ρ : World) (g : List ℕ) (x i : ℕ) where
             (omega (arith, b, bit_big lit i i ll (omega arith), bit_big keep i i lk (omega arith)));
       }
 
-  with_bit_lem : (f r : Field) (b : Bit) → i < 128 → Parts ρ g x i f.base f.keep f.literal → Says ρ g x i b → with_bit f i b ≡ some r
+  with_bit_lem : (f r : Field) (b : Bit) → i < 128 → Parts ρ g x i f.base f.keep f.literal → Says ρ g x i b → with_bit f i b ≡ Some r
       → Parts ρ g x (suc i) r.base r.keep r.literal
   with_bit_lem f r (known true) l h t e =
       subst (λ (k : Field). Parts ρ g x (suc i) k.base k.keep k.literal) (some_is e)
@@ -429,8 +429,8 @@ module _ (ρ : World) (g : List ℕ) (x i : ℕ) where
       (rw (with_power f.keep i l h.small.0)
       (kept_place m t.1 f.keep f.literal f.base h t.0 t.2 (t.3 ∙ ap (bit t.1) (eqb-true j i q.0)) q.1))
 
-field_from_lem : (ρ : World) (g : List ℕ) (x high low v : ℕ) → ((i : ℕ) (b : Bit) → concat_bit g high low v i ≡ some b → Says ρ g x i b)
-    → (k i : ℕ) (f r : Field) → i + k ≤ 128 → Parts ρ g x i f.base f.keep f.literal → field_from g high low v i k f ≡ some r
+field_from_lem : (ρ : World) (g : List ℕ) (x high low v : ℕ) → ((i : ℕ) (b : Bit) → concat_bit g high low v i ≡ Some b → Says ρ g x i b)
+    → (k i : ℕ) (f r : Field) → i + k ≤ 128 → Parts ρ g x i f.base f.keep f.literal → field_from g high low v i k f ≡ Some r
     → Parts ρ g x (i + k) r.base r.keep r.literal
 field_from_lem ρ g x high low v says zero i f r l h e =
     rw (add-zero i) (subst (λ (k : Field). Parts ρ g x i k.base k.keep k.literal) (some_is e) h)
@@ -443,12 +443,12 @@ field_from_lem ρ g x high low v says (suc k) i f r l h e =
     (with_bit_lem ρ g x i f q.0 p.0 (omega arith) h (says i p.0 p.1) q.1) q.2)
 
 gathers : (ρ : World) (g : List ℕ) (x w : ℕ) (o : Option ℕ) (keep lit : ℕ) → Parts ρ g x w o keep lit → ((i : ℕ) → w ≤ i → bit x i ≡ 0) → Gathers ρ g x o keep lit
-gathers ρ g x w none keep lit h past = bit_ext x lit (λ i. go i (dec_lt i w))
+gathers ρ g x w None keep lit h past = bit_ext x lit (λ i. go i (dec_lt i w))
   where
     go : (i : ℕ) → Dec (i < w) → bit x i ≡ bit lit i
     go i (yes p) = omega (arith, h.places i p, ap (λ (y : ℕ). bit y i) (h.bare refl), bit-zero i, bit-lt h.base i)
     go i (no p) = past i (omega arith) ∙ sym (bit_big lit w i h.small.1 (omega arith))
-gathers ρ g x w (some m) keep lit h past =
+gathers ρ g x w (Some m) keep lit h past =
     (h.origin.0, h.base, h.origin.1, bit_ext x (bit_or (bit_and h.base keep) lit) (λ i. go i (dec_lt i w)))
   where
     go : (i : ℕ) → Dec (i < w) → bit x i ≡ bit (bit_or (bit_and h.base keep) lit) i
@@ -463,7 +463,7 @@ gathers ρ g x w (some m) keep lit h past =
         )
 
 module _ (ρ : World) (g : List ℕ) (inv : Inv ρ g) (high low v w a b : ℕ) (lh : high < count_of g) (ll : low < count_of g)
-    (eh : value ρ g high ≡ some a) (el : value ρ g low ≡ some b) (typed : concat_typed (type_at g high) (type_at g low) v w ≡ true) (lw : w ≤ 128)
+    (eh : value ρ g high ≡ Some a) (el : value ρ g low ≡ Some b) (typed : concat_typed (type_at g high) (type_at g low) v w ≡ true) (lw : w ≤ 128)
   where
     parted : Sides (type_at g high) (type_at g low) v w
     parted = sides (type_at g high) (type_at g low) v w typed
@@ -480,17 +480,17 @@ module _ (ρ : World) (g : List ℕ) (inv : Inv ρ g) (high low v w a b : ℕ) (
     past : (i : ℕ) → w ≤ i → bit (a * 2 ^ v + b) i ≡ 0
     past i l = let q = parted.narrow in upper i (omega arith) ∙ bit_big a (w - v) (i - v) high_small (omega arith)
 
-    concat_says : (i : ℕ) (c : Bit) → concat_bit g high low v i ≡ some c → Says ρ g (a * 2 ^ v + b) i c
+    concat_says : (i : ℕ) (c : Bit) → concat_bit g high low v i ≡ Some c → Says ρ g (a * 2 ^ v + b) i c
     concat_says i c =
-        by_test (λ (o : Option Bit). o ≡ some c → Says ρ g (a * 2 ^ v + b) i c) (ltb i v)
+        by_test (λ (o : Option Bit). o ≡ Some c → Says ρ g (a * 2 ^ v + b) i c) (ltb i v)
         (λ q e. says_same ρ g (a * 2 ^ v + b) b i i c (bit_low_part a b v i low_small (ltb-true i v q)) (bit_sound ρ g inv DEPTH low i b ll el c e))
         (λ q e. says_same ρ g (a * 2 ^ v + b) a i (i - v) c (upper i (ltb-false i v q)) (bit_sound ρ g inv DEPTH high (i - v) a lh eh c e))
 
     -- a concat gathered as bits of one node and of a literal
-    pub field_sound : (f : Field) → fold_bitfield_concat g high low v w ≡ some f → FieldSays ρ g (a * 2 ^ v + b) w f
+    pub field_sound : (f : Field) → fold_bitfield_concat g high low v w ≡ Some f → FieldSays ρ g (a * 2 ^ v + b) w f
     unfolding fold_bitfield_concat
     field_sound f e =
-        let none_yet : Parts ρ g (a * 2 ^ v + b) 0 none 0 0 =
+        let none_yet : Parts ρ g (a * 2 ^ v + b) 0 None 0 0 =
         record { base = 0; origin = tt; bare = λ q. refl; small = (omega arith, omega arith); places = λ j q. absurd (omega arith) } in
         let p : Parts ρ g (a * 2 ^ v + b) w f.base f.keep f.literal =
         rw (← zero-add w)
@@ -530,13 +530,13 @@ same_test w x keep lit lx lk ll apart = go (eqb (bit_and x (2 ^ w - 1 - keep)) l
 pub record Linked (g : List ℕ) (n : ℕ) (c : ByConstant) : Type 0 where
   pub constant : ℕ
   pub operation : operation_at g n ≡ node.binary c.op c.base constant
-  pub has : literal g constant ≡ some c.value
+  pub has : literal g constant ≡ Some c.value
 
-pub linked : (g : List ℕ) (n : ℕ) (c : ByConstant) → by_constant_at g n ≡ some c → Linked g n c
+pub linked : (g : List ℕ) (n : ℕ) (c : ByConstant) → by_constant_at g n ≡ Some c → Linked g n c
 unfolding by_constant_at
 linked g n c e = go (operation_at g n) refl e
   where
-    go : (p : Op) → operation_at g n ≡ p → by_constant_of g p ≡ some c → Linked g n c
+    go : (p : Op) → operation_at g n ≡ p → by_constant_of g p ≡ Some c → Linked g n c
     go (node.constant k) q e = absurd (none-some e)
     go (node.input i) q e = absurd (none-some e)
     go (node.refine i) q e = absurd (none-some e)
@@ -546,14 +546,14 @@ linked g n c e = go (operation_at g n) refl e
     go (node.unary u i) q e = absurd (none-some e)
     go (node.binary b i j) q e = on (literal g j) refl e
       where
-        on : (k : Option ℕ) → literal g j ≡ k → with_constant b i k ≡ some c → Linked g n c
-        on none d e = absurd (none-some e)
-        on (some k) d e =
+        on : (k : Option ℕ) → literal g j ≡ k → with_constant b i k ≡ Some c → Linked g n c
+        on None d e = absurd (none-some e)
+        on (Some k) d e =
             let f : record { op = b; base = i; value = k } ≡ c = some_is e in
             record {
               constant = j;
               operation = q ∙ ap (λ (h : ByConstant). node.binary h.op h.base j) f;
-              has = d ∙ ap (λ (h : ByConstant). some h.value) f;
+              has = d ∙ ap (λ (h : ByConstant). Some h.value) f;
             }
 
 -- node n is an operation by a constant
@@ -564,14 +564,14 @@ module _ {ρ : World} {g : List ℕ} (i : Inv ρ g) (n : ℕ) (l : n < count_of 
   pub by_constant-typed : stored_typed c.op (type_at g c.base) (type_at g f.constant) (type_at g n) ≡ true
   by_constant-typed = typed_at ρ g i n l (node.binary c.op c.base f.constant) f.operation
 
-  pub by_constant-means : (v : ℕ) → value ρ g n ≡ some v
-      → (x : ℕ) × (value ρ g c.base ≡ some x) × (binary_value c.op (type_at g n) x c.value ≡ some v)
+  pub by_constant-means : (v : ℕ) → value ρ g n ≡ Some v
+      → (x : ℕ) × (value ρ g c.base ≡ Some x) × (binary_value c.op (type_at g n) x c.value ≡ Some v)
   by_constant-means v e =
       let t = type_at g n in
       let s = operands ρ g t c.op c.base f.constant v (means_at ρ g i n l v e (node.binary c.op c.base f.constant) f.operation) in
       let y : s.y ≡ c.value = some_is (sym s.right ∙ literal-value ρ g i f.constant c.value by_constant_here.1 f.has) in
       let q = then_is (binary_value c.op t s.x s.y) (of_type t) v s.means in
-      (s.x, s.left, ap (binary_value c.op t s.x) (sym y) ∙ q.1 ∙ ap some (sym (typed_is t q.0 v q.2).0))
+      (s.x, s.left, ap (binary_value c.op t s.x) (sym y) ∙ q.1 ∙ ap Some (sym (typed_is t q.0 v q.2).0))
 
 -- y is x And c
 record AndSays (x y c w : ℕ) : Type 0 where
@@ -583,18 +583,18 @@ record OrSays (ρ : World) (g : List ℕ) (i y c w : ℕ) : Type 0 where
   pub left : ℕ
   pub here : i < count_of g
   pub type : type_at g i ≡ ty.Bits w
-  pub has : value ρ g i ≡ some left
+  pub has : value ρ g i ≡ Some left
   pub means : y ≡ bit_or left c
   small : c < 2 ^ w
 
 module _ (ρ : World) (g : List ℕ) (inv : Inv ρ g) where
-  valued_is : (t : ScalarType) (w z v : ℕ) → t ≡ ty.Bits w → z < 2 ^ w → valued t z ≡ some v → v ≡ z
+  valued_is : (t : ScalarType) (w z v : ℕ) → t ≡ ty.Bits w → z < 2 ^ w → valued t z ≡ Some v → v ≡ z
   valued_is t w z v q l e =
-      let f : valued (ty.Bits w) z ≡ some v = subst (λ (k : ScalarType). valued k z ≡ some v) q e in
+      let f : valued (ty.Bits w) z ≡ Some v = subst (λ (k : ScalarType). valued k z ≡ Some v) q e in
       (typed_is (ty.Bits w) (z % 2 ^ w) v f).0 ∙ mod-eq_of_lt l
 
-  and-value : (n i j c w x y : ℕ) → n < count_of g → operation_at g n ≡ node.binary bi.And i j → literal g j ≡ some c → type_at g n ≡ ty.Bits w
-      → value ρ g i ≡ some x → value ρ g n ≡ some y → AndSays x y c w
+  and-value : (n i j c w x y : ℕ) → n < count_of g → operation_at g n ≡ node.binary bi.And i j → literal g j ≡ Some c → type_at g n ≡ ty.Bits w
+      → value ρ g i ≡ Some x → value ρ g n ≡ Some y → AndSays x y c w
   and-value n i j c w x y l e lit t ex ey =
       let b = below_at ρ g inv n l (node.binary bi.And i j) e in
       let q = tests (same_type (type_at g i) (type_at g n)) (same_type (type_at g j) (type_at g n)) (typed_at ρ g inv n l (node.binary bi.And i j) e) in
@@ -602,11 +602,11 @@ module _ (ρ : World) (g : List ℕ) (inv : Inv ρ g) where
       let s = operands ρ g (type_at g n) bi.And i j y (means_at ρ g inv n l y ey (node.binary bi.And i j) e) in
       let xs : s.x ≡ x = some_is (sym s.left ∙ ex) in
       let ys : s.y ≡ c = some_is (sym s.right ∙ literal-value ρ g inv j c (omega arith) lit) in
-      let m : valued (type_at g n) (bit_and x c) ≡ some y = rw (← xs, ← ys) (and-means (type_at g n) s.x s.y y s.means) in
+      let m : valued (type_at g n) (bit_and x c) ≡ Some y = rw (← xs, ← ys) (and-means (type_at g n) s.x s.y y s.means) in
       record { means = valued_is (type_at g n) w (bit_and x c) y t (lt_of_le_of_lt (and_le_r x c) small) m; small = small }
 
-  or-value : (n i j c w y : ℕ) → n < count_of g → operation_at g n ≡ node.binary bi.Or i j → literal g j ≡ some c → type_at g n ≡ ty.Bits w
-      → value ρ g n ≡ some y → OrSays ρ g i y c w
+  or-value : (n i j c w y : ℕ) → n < count_of g → operation_at g n ≡ node.binary bi.Or i j → literal g j ≡ Some c → type_at g n ≡ ty.Bits w
+      → value ρ g n ≡ Some y → OrSays ρ g i y c w
   or-value n i j c w y l e lit t ey =
       let b = below_at ρ g inv n l (node.binary bi.Or i j) e in
       let q = tests (same_type (type_at g i) (type_at g n)) (same_type (type_at g j) (type_at g n)) (typed_at ρ g inv n l (node.binary bi.Or i j) e) in
@@ -615,7 +615,7 @@ module _ (ρ : World) (g : List ℕ) (inv : Inv ρ g) where
       let s = operands ρ g (type_at g n) bi.Or i j y (means_at ρ g inv n l y ey (node.binary bi.Or i j) e) in
       let ys : s.y ≡ c = some_is (sym s.right ∙ literal-value ρ g inv j c (omega arith) lit) in
       let ls : s.x < 2 ^ w = subst (λ (k : ScalarType). s.x < size k) ti (value_small inv i (omega arith) s.x s.left) in
-      let m : valued (type_at g n) (bit_or s.x c) ≡ some y = rw (← ys) (or-means (type_at g n) s.x s.y y s.means) in
+      let m : valued (type_at g n) (bit_or s.x c) ≡ Some y = rw (← ys) (or-means (type_at g n) s.x s.y y s.means) in
       record {
         left = s.x;
         here = omega arith;
@@ -625,8 +625,8 @@ module _ (ρ : World) (g : List ℕ) (inv : Inv ρ g) where
         small = small;
       }
 
-  by_constant-value : (n w x y : ℕ) (c : ByConstant) → n < count_of g → type_at g n ≡ ty.Bits w → by_constant_at g n ≡ some c → c.op ≡ bi.And → value ρ g c.base ≡ some x
-      → value ρ g n ≡ some y → AndSays x y c.value w
+  by_constant-value : (n w x y : ℕ) (c : ByConstant) → n < count_of g → type_at g n ≡ ty.Bits w → by_constant_at g n ≡ Some c → c.op ≡ bi.And → value ρ g c.base ≡ Some x
+      → value ρ g n ≡ Some y → AndSays x y c.value w
   by_constant-value n w x y c l t e o ex ey =
       let s = linked g n c e in
       and-value n c.base s.constant c.value w x y l (s.operation ∙ ap (λ (h : Binary). node.binary h c.base s.constant) o) s.has t ex ey
@@ -648,7 +648,7 @@ pub record MaskSays (ρ : World) (g : List ℕ) (o : Binary) (x y : ℕ) (m : Ma
   pub result : m.result ≡ ty.Bool
   pub op : m.op ≡ o
   pub base : ℕ
-  pub has : value ρ g m.base ≡ some base
+  pub has : value ρ g m.base ≡ Some base
   pub means : eqb x y ≡ eqb (bit_and base m.mask) m.literal
 
 mask_swap : (ρ : World) (g : List ℕ) (o : Binary) (x y : ℕ) (m : Mask) → MaskSays ρ g o y x m → MaskSays ρ g o x y m
@@ -666,10 +666,10 @@ mask_swap ρ g o x y m s = record {
   means = eqb_sym x y ∙ s.means;
 }
 
-module _ (ρ : World) (g : List ℕ) (inv : Inv ρ g) (n w x y : ℕ) (l : n < count_of g) (t : type_at g n ≡ ty.Bits w) (ey : value ρ g n ≡ some y) (c : ByConstant)
-    (o : c.op ≡ bi.And) (ex : value ρ g c.base ≡ some x) where
+module _ (ρ : World) (g : List ℕ) (inv : Inv ρ g) (n w x y : ℕ) (l : n < count_of g) (t : type_at g n ≡ ty.Bits w) (ey : value ρ g n ≡ Some y) (c : ByConstant)
+    (o : c.op ≡ bi.And) (ex : value ρ g c.base ≡ Some x) where
   -- the node itself is the And
-  bare_update : (u : Update) → some (record { preserved = n; literal = 0 }) ≡ some u → by_constant_at g u.preserved ≡ some c
+  bare_update : (u : Update) → Some (record { preserved = n; literal = 0 }) ≡ Some u → by_constant_at g u.preserved ≡ Some c
       → UpdateSays x y c.value u.literal w
   bare_update u e q =
       let f : record { preserved = n; literal = 0 } ≡ u = some_is e in
@@ -678,11 +678,11 @@ module _ (ρ : World) (g : List ℕ) (inv : Inv ρ g) (n w x y : ℕ) (l : n < c
       let s = by_constant-value ρ g inv n w x y c l t (ap (by_constant_at g) fp ∙ q) o ex ey in
       rw (← fl) (record { means = s.means ∙ sym (or_zero_r (bit_and x c.value)); keep = s.small; literal = pow_pos w })
 
-  update_says : (u : Update) → update_at g n ≡ some u → by_constant_at g u.preserved ≡ some c → UpdateSays x y c.value u.literal w
+  update_says : (u : Update) → update_at g n ≡ Some u → by_constant_at g u.preserved ≡ Some c → UpdateSays x y c.value u.literal w
   unfolding update_at
   update_says u e q = go (operation_at g n) refl e
     where
-      go : (p : Op) → operation_at g n ≡ p → update_of g n p ≡ some u → UpdateSays x y c.value u.literal w
+      go : (p : Op) → operation_at g n ≡ p → update_of g n p ≡ Some u → UpdateSays x y c.value u.literal w
       go (node.constant k) d e = bare_update u e q
       go (node.input i) d e = bare_update u e q
       go (node.refine i) d e = bare_update u e q
@@ -693,11 +693,11 @@ module _ (ρ : World) (g : List ℕ) (inv : Inv ρ g) (n w x y : ℕ) (l : n < c
       go (node.binary b i j) d e = on (same_binary b bi.Or) refl (literal g j) refl e
         where
           on : (z : Bool) → same_binary b bi.Or ≡ z → (k : Option ℕ) → literal g j ≡ k
-              → cond z (given k (λ a. some (record { preserved = i; literal = a })) none) (some (record { preserved = n; literal = 0 })) ≡ some u
+              → cond z (given k (λ a. Some (record { preserved = i; literal = a })) None) (Some (record { preserved = n; literal = 0 })) ≡ Some u
               → UpdateSays x y c.value u.literal w
           on false zb k zk e = bare_update u e q
-          on true zb none zk e = absurd (none-some e)
-          on true zb (some k) zk e =
+          on true zb None zk e = absurd (none-some e)
+          on true zb (Some k) zk e =
               let f : record { preserved = i; literal = k } ≡ u = some_is e in
               let fp : i ≡ u.preserved = ap (λ (h : Update). h.preserved) f in
               let fl : k ≡ u.literal = ap (λ (h : Update). h.literal) f in
@@ -721,8 +721,8 @@ pub record Folded (g : List ℕ) (o : Binary) (base updated : ℕ) (m : Mask) : 
   pub shape : ByConstant
   pub typed : type_at g base ≡ ty.Bits width
   pub also : type_at g updated ≡ ty.Bits width
-  pub updates : update_at g updated ≡ some update
-  pub shaped : by_constant_at g update.preserved ≡ some shape
+  pub updates : update_at g updated ≡ Some update
+  pub shaped : by_constant_at g update.preserved ≡ Some shape
   pub kept : keeps base width update.literal shape ≡ true
   pub is : changed_bits o base width update.literal shape ≡ m
 
@@ -763,11 +763,11 @@ module _ (g : List ℕ) (o : Binary) where
           (λ n e. absurd (next_found e))
 
   -- either node being the base
-  pub first_folded : (left right : ℕ) (m : Mask) → fold_masked_comparison g o left right ≡ some m → (fold_pair g o left right ≡ found m) ⊎ (fold_pair g o right left ≡ found m)
+  pub first_folded : (left right : ℕ) (m : Mask) → fold_masked_comparison g o left right ≡ Some m → (fold_pair g o left right ≡ found m) ⊎ (fold_pair g o right left ≡ found m)
   unfolding fold_masked_comparison
   first_folded left right m = go (fold_pair g o left right) (fold_pair g o right left)
     where
-      go : (a b : PairFold) → first_found a b ≡ some m → (a ≡ found m) ⊎ (b ≡ found m)
+      go : (a b : PairFold) → first_found a b ≡ Some m → (a ≡ found m) ⊎ (b ≡ found m)
       go next next e = absurd (none-some e)
       go next end e = absurd (none-some e)
       go next (found h) e = inr (ap found (some_is e))
@@ -775,9 +775,9 @@ module _ (g : List ℕ) (o : Binary) where
       go (found h) b e = inl (ap found (some_is e))
 
 module _ (ρ : World) (g : List ℕ) (inv : Inv ρ g) (o : Binary) where
-  module _ (base updated x y : ℕ) (lb : base < count_of g) (lu : updated < count_of g) (ex : value ρ g base ≡ some x) (ey : value ρ g updated ≡ some y) where
-    changed_says : (w : ℕ) (u : Update) (c : ByConstant) → type_at g base ≡ ty.Bits w → type_at g updated ≡ ty.Bits w → update_at g updated ≡ some u
-        → by_constant_at g u.preserved ≡ some c → keeps base w u.literal c ≡ true → MaskSays ρ g o x y (changed_bits o base w u.literal c)
+  module _ (base updated x y : ℕ) (lb : base < count_of g) (lu : updated < count_of g) (ex : value ρ g base ≡ Some x) (ey : value ρ g updated ≡ Some y) where
+    changed_says : (w : ℕ) (u : Update) (c : ByConstant) → type_at g base ≡ ty.Bits w → type_at g updated ≡ ty.Bits w → update_at g updated ≡ Some u
+        → by_constant_at g u.preserved ≡ Some c → keeps base w u.literal c ≡ true → MaskSays ρ g o x y (changed_bits o base w u.literal c)
     changed_says w u c tb tu eu ec k =
         let p = tests (same_binary c.op bi.And) (eqb c.base base && (eqb (bit_and u.literal c.value) 0 && leb u.literal (mask w))) k in
         let q = tests (eqb c.base base) (eqb (bit_and u.literal c.value) 0 && leb u.literal (mask w)) p.1 in
@@ -810,7 +810,7 @@ module _ (ρ : World) (g : List ℕ) (inv : Inv ρ g) (o : Binary) where
         let s = folded g o base updated m e in
         subst (MaskSays ρ g o x y) s.is (changed_says s.width s.update s.shape s.typed s.also s.updates s.shaped s.kept)
 
-  pub masked_sound : (left right x y : ℕ) → left < count_of g → right < count_of g → value ρ g left ≡ some x → value ρ g right ≡ some y → (m : Mask)
-      → fold_masked_comparison g o left right ≡ some m → MaskSays ρ g o x y m
+  pub masked_sound : (left right x y : ℕ) → left < count_of g → right < count_of g → value ρ g left ≡ Some x → value ρ g right ≡ Some y → (m : Mask)
+      → fold_masked_comparison g o left right ≡ Some m → MaskSays ρ g o x y m
   masked_sound left right x y ll lr ex ey m e =
       ⊎_elim (fold_says left right x y ll lr ex ey m) (λ q. mask_swap ρ g o x y m (fold_says right left y x lr ll ey ex m q)) (first_folded g o left right m e)

@@ -3,7 +3,7 @@ use mathlib.Core.Path.{◌≡◌, refl, sym, ap, ◌∙◌, subst}
 use mathlib.Core.Bool.{Bool, true, false, not, false≢true, not-not}
 use mathlib.Core.List.{List}
 use mathlib.Core.Logic.{◌↔◌}
-use mathlib.Core.Option.{Option, none, some}
+use Rattle.std.specs.Prelude.{Option, None, Some}
 use Prim.Native.Nat.{ℕ, zero, suc, ◌-◌, ◌%◌, ◌^◌, ◌≤◌, ◌<◌}
 use native.Mathlib.Nat.{mod-eq_of_lt, lt_of_lt_of_le}
 use native.Mathlib.Omega.{arith}
@@ -49,7 +49,7 @@ turned : (e v : Bool) → same_bool (not e) v ≡ same_bool e (not v)
 turned true v = refl
 turned false v = sym (not-not v)
 
-same_truth : (e v : Bool) → (same_bool e v ≡ true) ↔ (◌≡◌ {A = Option ℕ} (some (from_bool v)) (some (from_bool e)))
+same_truth : (e v : Bool) → (same_bool e v ≡ true) ↔ (◌≡◌ {A = Option ℕ} (Some (from_bool v)) (Some (from_bool e)))
 same_truth true true = (λ h. refl, λ h. refl)
 same_truth true false = (λ h. absurd (false≢true h), λ h. let z = some_is h in absurd (omega arith))
 same_truth false true = (λ h. absurd (false≢true h), λ h. let z = some_is h in absurd (omega arith))
@@ -63,10 +63,10 @@ natural_of (ty.Bits w) x l h = refl
 natural_of ty.Integer x l h = natural 128 x l h
 
 -- a value is below 2 ^ 64 if its node's range fits 64 bits
-host_small : (t : ScalarType) (x : ℕ) → x < size t → (r : Option Interval) → ((a : Interval) → r ≡ some a → (integer_of t x) ∈ a)
+host_small : (t : ScalarType) (x : ℕ) → x < size t → (r : Option Interval) → ((a : Interval) → r ≡ Some a → (integer_of t x) ∈ a)
     → fits 64 r ≡ true → x < 2 ^ 64
-host_small t x l none m e = absurd (false≢true e)
-host_small t x l (some a) m e =
+host_small t x l None m e = absurd (false≢true e)
+host_small t x l (Some a) m e =
     let i = m a refl in
     let d = tests (nonnegative a) _ e in
     let p = at_most_lem (pos 0) a.low d.0 in
@@ -79,15 +79,15 @@ host_small t x l (some a) m e =
 -- what a comparison says of x and y, and that the unsigned one says it of their low 64 bits, if they have no others
 abbrev Told : ℕ → ℕ → Binary → Type 0
 Told x y o =
-    (c : Bool) × (binary_value o ty.Bool x y ≡ some (from_bool c))
-    × (x < 2 ^ 64 → y < 2 ^ 64 → host_compared (unsigned_for o) (x % 2 ^ 64) (y % 2 ^ 64) ≡ some c)
+    (c : Bool) × (binary_value o ty.Bool x y ≡ Some (from_bool c))
+    × (x < 2 ^ 64 → y < 2 ^ 64 → host_compared (unsigned_for o) (x % 2 ^ 64) (y % 2 ^ 64) ≡ Some c)
 
 module _ (x y : ℕ) where
-  low : (f : ℕ → ℕ → Bool) → x < 2 ^ 64 → y < 2 ^ 64 → some (f (x % 2 ^ 64) (y % 2 ^ 64)) ≡ some (f x y)
-  low f l m = λ i. some (f (mod-eq_of_lt l i) (mod-eq_of_lt m i))
+  low : (f : ℕ → ℕ → Bool) → x < 2 ^ 64 → y < 2 ^ 64 → Some (f (x % 2 ^ 64) (y % 2 ^ 64)) ≡ Some (f x y)
+  low f l m = λ i. Some (f (mod-eq_of_lt l i) (mod-eq_of_lt m i))
 
-  low_signed : (f : ℤ → ℤ → Bool) → x < 2 ^ 64 → y < 2 ^ 64 → some (f (pos x) (pos y)) ≡ some (f (signed 128 x) (signed 128 y))
-  low_signed f l m = sym (λ i. some (f (read x l i) (read y m i)))
+  low_signed : (f : ℤ → ℤ → Bool) → x < 2 ^ 64 → y < 2 ^ 64 → Some (f (pos x) (pos y)) ≡ Some (f (signed 128 x) (signed 128 y))
+  low_signed f l m = sym (λ i. Some (f (read x l i) (read y m i)))
     where
       read : (n : ℕ) → n < 2 ^ 64 → signed 128 n ≡ pos n
       read n h = signed_low 128 n (lt_of_lt_of_le h (pow_mono {i = 64} {j = 127} (omega arith)))
@@ -103,7 +103,7 @@ module _ (x y : ℕ) where
       (eqb x y, refl, low eqb)
       (not (eqb x y), refl, low (λ a b. not (eqb a b)))
 
-pub comparison_is : (o : Op) (c : Comparison) → compared_by o ≡ some c → (is_any comparisons c.op ≡ true) × (o ≡ node.binary c.op c.left c.right)
+pub comparison_is : (o : Op) (c : Comparison) → compared_by o ≡ Some c → (is_any comparisons c.op ≡ true) × (o ≡ node.binary c.op c.left c.right)
 comparison_is (node.constant n) c e = absurd (none-some e)
 comparison_is (node.input i) c e = absurd (none-some e)
 comparison_is (node.refine i) c e = absurd (none-some e)
@@ -115,7 +115,7 @@ comparison_is (node.binary o i j) c e =
     let p = provided_is (is_any comparisons o) _ e in
     rw (← some_is p.1) (p.0, refl)
 
-pub negated_is : (o : Op) (i : ℕ) → negated_of o ≡ some i → o ≡ node.unary un.BoolNot i
+pub negated_is : (o : Op) (i : ℕ) → negated_of o ≡ Some i → o ≡ node.unary un.BoolNot i
 negated_is (node.constant n) i e = absurd (none-some e)
 negated_is (node.input j) i e = absurd (none-some e)
 negated_is (node.refine j) i e = absurd (none-some e)
@@ -131,37 +131,37 @@ negated_is (node.unary (un.LeadingZeros w) j) i e = absurd (none-some e)
 negated_is (node.unary (un.TrailingZeros w) j) i e = absurd (none-some e)
 negated_is (node.binary o j k) i e = absurd (none-some e)
 
-negated_at_lem : (g : List ℕ) (n i : ℕ) → negated_at g n ≡ some i → operation_at g n ≡ node.unary un.BoolNot i
+negated_at_lem : (g : List ℕ) (n i : ℕ) → negated_at g n ≡ Some i → operation_at g n ≡ node.unary un.BoolNot i
 unfolding negated_at
 negated_at_lem g n i e = negated_is (operation_at g n) i e
 
-not-means : (v : Bool) → unary_means ty.Bool un.BoolNot (some (from_bool v)) ≡ some (from_bool (not v))
+not-means : (v : Bool) → unary_means ty.Bool un.BoolNot (Some (from_bool v)) ≡ Some (from_bool (not v))
 unfolding unary_value
 not-means v = ap (λ (b : Bool). of_type ty.Bool (from_bool b)) (zero_truth v) ∙ typed_of ty.Bool (from_bool (not v)) (truth_small (not v))
 
 -- ---- the values of nodes
 
 module _ (ρ : Env) (g : List ℕ) where
-  host_value : (n x : ℕ) → value ρ g n ≡ some x → InRange g n x → fits 64 (range_at g n) ≡ true → x < 2 ^ 64
+  host_value : (n x : ℕ) → value ρ g n ≡ Some x → InRange g n x → fits 64 (range_at g n) ≡ true → x < 2 ^ 64
   unfolding value
   host_value n x e = host_small (type_at g n) x (means_small ρ (type_at g n) (operation_at g n) _ x e) (range_at g n)
 
   -- what a guard's comparison says of its operands' values
   compared_is : (c : Comparison) (e host : Bool) → fit_host g c ≡ host → (s : is_any comparisons c.op ≡ true) → (x y : ℕ)
-      → value ρ g c.left ≡ some x → value ρ g c.right ≡ some y → InRange g c.left x → InRange g c.right y
-      → compared (guard_by c e host) x y ≡ some (told x y c.op s).0
+      → value ρ g c.left ≡ Some x → value ρ g c.right ≡ Some y → InRange g c.left x → InRange g c.right y
+      → compared (guard_by c e host) x y ≡ Some (told x y c.op s).0
   compared_is c e true h s x y ex ey rx ry =
       let d = tests (fits 64 (range_at g c.left)) _ h in
       (told x y c.op s).2 (host_value c.left x ex rx d.0) (host_value c.right y ey ry d.1)
   compared_is c e false h s x y ex ey rx ry =
       let t = told x y c.op s in
-      rw (s, t.1) (ap some (ap not (zero_truth t.0) ∙ not-not t.0))
+      rw (s, t.1) (ap Some (ap not (zero_truth t.0) ∙ not-not t.0))
 
   module _ (f : Graph g) where
     -- the value of a comparison
     comparison-value : (n : ℕ) → n < count_of g → type_at g n ≡ ty.Bool → (o : Binary) (i j : ℕ) → operation_at g n ≡ node.binary o i j
-        → (x y : ℕ) → value ρ g i ≡ some x → value ρ g j ≡ some y
-        → (c : Bool) → binary_value o ty.Bool x y ≡ some (from_bool c) → value ρ g n ≡ some (from_bool c)
+        → (x y : ℕ) → value ρ g i ≡ Some x → value ρ g j ≡ Some y
+        → (c : Bool) → binary_value o ty.Bool x y ≡ Some (from_bool c) → value ρ g n ≡ Some (from_bool c)
     comparison-value n l t o i j d x y ex ey c e =
         value_step ρ g n (start_le f n l) ∙ (λ k. operation_means ρ (t k) (d k) (operand ρ g)) ∙ (λ k. binary_means ty.Bool o (ex k) (ey k))
         ∙ ap (λ (r : Option ℕ). and_then r (of_type ty.Bool)) e ∙ typed_of ty.Bool (from_bool c) (truth_small c)
@@ -169,8 +169,8 @@ module _ (ρ : Env) (g : List ℕ) where
     -- if the node of m has a truth value, so has n, and both are as expected or neither is
     abbrev Leads : ℕ → Bool → Condition → Type 0
     Leads n e m =
-        (c : Bool) → (m.node < count_of g → value ρ g m.node ≡ some (from_bool c))
-        → (v : Bool) × (value ρ g n ≡ some (from_bool v)) × (same_bool m.expected c ≡ same_bool e v)
+        (c : Bool) → (m.node < count_of g → value ρ g m.node ≡ Some (from_bool c))
+        → (v : Bool) × (value ρ g n ≡ Some (from_bool v)) × (same_bool m.expected c ≡ same_bool e v)
 
     condition_value : (k n : ℕ) (e : Bool) → n < count_of g → BoolsBehind g n e → Leads n e (behind g k n e)
     condition_value zero n e l b = λ c h. (c, h l, refl)
@@ -179,8 +179,8 @@ module _ (ρ : Env) (g : List ℕ) where
         go : (o : Option ℕ) → negated_at g n ≡ o
             → ((i : ℕ) → i < count_of g → BoolsBehind g i (not e) → Leads i (not e) (behind g k i (not e)))
             → Leads n e (given o (λ i. behind g k i (not e)) (record { node = n; expected = e }))
-        go none d ih c h = (c, h l, refl)
-        go (some i) d ih c h =
+        go None d ih c h = (c, h l, refl)
+        go (Some i) d ih c h =
             let u = negated_at_lem g n i d in
             let s : start (node.unary un.BoolNot i) ≤ n = rw u at (start_le f n l) in
             let (v, p, r) = ih i (omega arith) (λ j. rw d at (b (suc j))) c h in
@@ -190,8 +190,8 @@ module _ (ρ : Env) (g : List ℕ) where
 -- ---- guards
 
 -- without BoolsBehind it is false: a constant 5, Equal of it with itself stored as Bits(0), which is 0, and a BoolNot over that
-pub guard_decides : (ρ : Env) (g : List ℕ) → is_graph g ≡ true → (n : ℕ) → n < count_of g → (e : Bool) (q : Guard) → guarded g n e ≡ some q
-    → BoolsBehind g n e → (x y : ℕ) → value ρ g q.left ≡ some x → value ρ g q.right ≡ some y → InRange g q.left x → InRange g q.right y
+pub guard_decides : (ρ : Env) (g : List ℕ) → is_graph g ≡ true → (n : ℕ) → n < count_of g → (e : Bool) (q : Guard) → guarded g n e ≡ Some q
+    → BoolsBehind g n e → (x y : ℕ) → value ρ g q.left ≡ Some x → value ρ g q.right ≡ Some y → InRange g q.left x → InRange g q.right y
     → Decides ρ g n e q x y
 unfolding guarded behind_nots comparison_at matched
 guard_decides ρ g w n l e q h b x y =
@@ -200,7 +200,7 @@ guard_decides ρ g w n l e q h b x y =
     let (o, d) = comparison_is (operation_at g m.node) c p in
     subst
     (λ (r : Guard).
-    value ρ g r.left ≡ some x → value ρ g r.right ≡ some y → InRange g r.left x → InRange g r.right y → Decides ρ g n e r x y)
+    value ρ g r.left ≡ Some x → value ρ g r.right ≡ Some y → InRange g r.left x → InRange g r.right y → Decides ρ g n e r x y)
     s
     (λ ex ey rx ry.
     let t = told x y c.op o in

@@ -3,7 +3,7 @@ use mathlib.Core.Path.{◌≡◌, refl, sym, ap, ◌∙◌, subst}
 use mathlib.Core.Bool.{Bool, true, cond, false, ◌&&◌}
 use mathlib.Core.List.{List}
 use mathlib.Core.Logic.{◌⊎◌, inl, inr, ⊎_elim}
-use mathlib.Core.Option.{Option, none, some}
+use Rattle.std.specs.Prelude.{Option, None, Some}
 use Prim.Native.Nat.{ℕ, zero, suc, min, ◌+◌, ◌-◌, ◌^◌, ◌≤◌, ◌<◌}
 use native.Mathlib.Decide.{dec_lt}
 use native.Mathlib.Nat.{le_refl}
@@ -68,11 +68,11 @@ pub record Ends (a : Interval) : Type 0 where
 
 -- a value of type t lies in the range, if there is one
 abbrev pub Within : ScalarType → ℕ → Option Interval → Type 0
-Within t v r = (a : Interval) → r ≡ some a → (integer_of t v) ∈ a
+Within t v r = (a : Interval) → r ≡ Some a → (integer_of t v) ∈ a
 
 -- a range inside another: where that is one, this is one too, and no wider
 abbrev pub Inside : Option Interval → Option Interval → Type 0
-Inside r s = (b : Interval) → s ≡ some b → (a : Interval) × (r ≡ some a) × (b.low ≤ℤ a.low) × (a.high ≤ℤ b.high)
+Inside r s = (b : Interval) → s ≡ Some b → (a : Interval) × (r ≡ Some a) × (b.low ≤ℤ a.low) × (a.high ≤ℤ b.high)
 
 pub inside_refl : (r : Option Interval) → Inside r r
 inside_refl r b e = (b, e, omega orders, omega orders)
@@ -96,7 +96,7 @@ pub record Leads (ρ : World) (g : List ℕ) (n m : ℕ) : Type 0 where
 abbrev pub Refined : (ℕ → Option ℕ) → ScalarType → Op → Type 0
 Refined look t (node.constant c) = Unit {0}
 Refined look t (node.input i) = Unit {0}
-Refined look t (node.refine i) = (v : ℕ) → look i ≡ some v → v < size t
+Refined look t (node.refine i) = (v : ℕ) → look i ≡ Some v → v < size t
 Refined look t (node.effect i) = Unit {0}
 Refined look t (node.slice i o w) = Unit {0}
 Refined look t (node.concat i j v) = Unit {0}
@@ -115,9 +115,9 @@ pub record Inv (ρ : World) (g : List ℕ) : Type 0 where
   -- a Refine's source has a value of the Refine's type, if any
   pub refined : (n : ℕ) → n < count_of g → ρ.IsSure → Refined (value ρ g) (type_at g n) (operation_at g n)
   -- the ends of ranges are integers of 128 bits
-  pub ends : (n : ℕ) → n < count_of g → (a : Interval) → range_at g n ≡ some a → Ends a
+  pub ends : (n : ℕ) → n < count_of g → (a : Interval) → range_at g n ≡ Some a → Ends a
   -- every defined value lies in its node's range
-  pub ranged : (n : ℕ) → n < count_of g → ρ.IsSure → (v : ℕ) → value ρ g n ≡ some v → Within (type_at g n) v (range_at g n)
+  pub ranged : (n : ℕ) → n < count_of g → ρ.IsSure → (v : ℕ) → value ρ g n ≡ Some v → Within (type_at g n) v (range_at g n)
   -- an alias leads to a node of the same type and value, with a range inside
   pub alias : (n : ℕ) → n < count_of g → (alias_at g n ≡ 0) ⊎ Leads ρ g n (alias_at g n - 1)
 
@@ -136,7 +136,7 @@ pub inv_step : {ρ : World} {g : List ℕ} → Inv ρ g → (n : ℕ) → n < co
 inv_step {ρ} {g} i n l = value_step ρ.env g n (inv_below i n l)
 
 -- its range, if it has one, passes question 1
-pub inv_valid : {ρ : World} {g : List ℕ} → Inv ρ g → (n : ℕ) → n < count_of g → (a : Interval) → range_at g n ≡ some a → Valid (type_at g n) a
+pub inv_valid : {ρ : World} {g : List ℕ} → Inv ρ g → (n : ℕ) → n < count_of g → (a : Interval) → range_at g n ≡ Some a → Valid (type_at g n) a
 inv_valid {ρ} {g} i = range_valid (inv_graph i)
 
 -- ---- one graph goes on from another: its nodes are there, with their types, ranges and operations
@@ -205,10 +205,10 @@ module _ {ρ : World} {g h : List ℕ} (i : Inv ρ g) (e : Extends g h) (n : ℕ
   pub old_refined : ρ.IsSure → Refined (value ρ h) (type_at h n) (operation_at h n)
   old_refined sure = rw (ext_type e n l, ext_operation e n l) (refined_ext ρ e (type_at g n) (operation_at g n) reaches (i.refined n l sure))
 
-  pub old_ends : (a : Interval) → range_at h n ≡ some a → Ends a
+  pub old_ends : (a : Interval) → range_at h n ≡ Some a → Ends a
   old_ends a q = i.ends n l a (sym (ext_range e n l) ∙ q)
 
-  pub old_ranged : ρ.IsSure → (v : ℕ) → value ρ h n ≡ some v → Within (type_at h n) v (range_at h n)
+  pub old_ranged : ρ.IsSure → (v : ℕ) → value ρ h n ≡ Some v → Within (type_at h n) v (range_at h n)
   old_ranged sure v q = rw (ext_type e n l, ext_range e n l) (i.ranged n l sure v (sym (ext_value ρ e n l) ∙ q))
 
 pub leads_ext : (ρ : World) {g h : List ℕ} → Extends g h → (n m : ℕ) → n < count_of g → Leads ρ g n m → Leads ρ h n m
@@ -258,11 +258,11 @@ pub record Storable (ρ : World) (g : List ℕ) (t : ScalarType) (r : Option Int
   pub below : start o ≤ count_of g
   pub offset : op_offset o < 128
   pub parameter : op_z o ≤ 128
-  pub valid : (a : Interval) → r ≡ some a → Valid t a
+  pub valid : (a : Interval) → r ≡ Some a → Valid t a
   pub typed : Typed g t o
   pub refined : ρ.IsSure → Refined (value ρ g) t o
-  pub ends : (a : Interval) → r ≡ some a → Ends a
-  pub within : ρ.IsSure → (v : ℕ) → operation_means ρ t o (operand ρ g) ≡ some v → Within t v r
+  pub ends : (a : Interval) → r ≡ Some a → Ends a
+  pub within : ρ.IsSure → (v : ℕ) → operation_means ρ t o (operand ρ g) ≡ Some v → Within t v r
 
 -- the graph that a call leaves
 pub record Kept (ρ : World) (g h : List ℕ) : Type 0 where
@@ -279,7 +279,7 @@ kept_trans a b = record { grows = ext_trans a.grows b.grows; inv = b.inv }
 pub record Found (ρ : World) (t : ScalarType) (w : Option ℕ) (n : ℕ) (h : List ℕ) : Type 0 where
   pub here : n < count_of h
   pub type : type_at h n ≡ t
-  pub means : ρ.IsSure → (v : ℕ) → w ≡ some v → value ρ h n ≡ some v
+  pub means : ρ.IsSure → (v : ℕ) → w ≡ Some v → value ρ h n ≡ Some v
 
 -- what is to hold of an answer and of the graph left, where type t and value w are asked for
 abbrev pub Answered : World → List ℕ → ScalarType → Option ℕ → Reply → List ℕ → Type 0
@@ -350,7 +350,7 @@ module _ (ρ : World) (g : List ℕ) (t : ScalarType) (r : Option Interval) (o :
         each (Exact grown) (λ n l. exact_old g t r o (inv_graph i).length room s.stored n (λ e. omega arith) (i.exact n l))
         (exact_new g t r o (inv_graph i).length room s.stored)
 
-    grown_keys : interned g o ws ≡ none → Keys grown
+    grown_keys : interned g o ws ≡ None → Keys grown
     unfolding ws grown
     grown_keys e = keys_grown g t r o (inv_graph i).length room s.stored (inv_below i) i.exact e i.keys
 
@@ -358,7 +358,7 @@ module _ (ρ : World) (g : List ℕ) (t : ScalarType) (r : Option Interval) (o :
     unfolding ws grown
     grown-graph = graph-grown g t r o (inv_graph i) room s.stored s.width s.below s.offset s.parameter s.valid
 
-    grown_inv : interned g o ws ≡ none → Inv ρ grown
+    grown_inv : interned g o ws ≡ None → Inv ρ grown
     grown_inv e = record {
       graph = grown-graph;
       exact = grown_exact;
@@ -370,10 +370,10 @@ module _ (ρ : World) (g : List ℕ) (t : ScalarType) (r : Option Interval) (o :
           each (λ n. ρ.IsSure → Refined (value ρ grown) (type_at grown n) (operation_at grown n)) (old_refined i grows)
           (λ y. rw (new.type, new.operation) (refined_ext ρ grows t o s.below (s.refined y)));
       ends =
-          each (λ n. (a : Interval) → range_at grown n ≡ some a → Ends a) (old_ends i grows)
+          each (λ n. (a : Interval) → range_at grown n ≡ Some a → Ends a) (old_ends i grows)
           (λ a q. s.ends a (sym new.range ∙ q));
       ranged =
-          each (λ n. ρ.IsSure → (v : ℕ) → value ρ grown n ≡ some v → Within (type_at grown n) v (range_at grown n))
+          each (λ n. ρ.IsSure → (v : ℕ) → value ρ grown n ≡ Some v → Within (type_at grown n) v (range_at grown n))
           (old_ranged i grows)
           (λ y v q. rw (new.type, new.range) (s.within y v (sym new_means ∙ q)));
       alias =
@@ -384,7 +384,7 @@ module _ (ρ : World) (g : List ℕ) (t : ScalarType) (r : Option Interval) (o :
 
   -- ---- what interning finds
 
-  found : (n : ℕ) → interned g o ws ≡ some n → Stands ρ g t r o (resolve g n) g
+  found : (n : ℕ) → interned g o ws ≡ Some n → Stands ρ g t r o (resolve g n) g
   unfolding ws
   found n e =
       let f = lowest-some (same_key g (words_of t r o)) (min (start o) LIMIT) (min (count_of g) LIMIT - min (start o) LIMIT) n e in
@@ -404,7 +404,7 @@ module _ (ρ : World) (g : List ℕ) (t : ScalarType) (r : Option Interval) (o :
   unfoldable MadeGood : Made → Type 0
   MadeGood m = Inserted ρ g t r o m.answer m.words
 
-  new_good : interned g o ws ≡ none → (b : Bool) → ltb (count_of g) LIMIT ≡ b → MadeGood (appended g ws)
+  new_good : interned g o ws ≡ None → (b : Bool) → ltb (count_of g) LIMIT ≡ b → MadeGood (appended g ws)
   unfolding MadeGood ws grown
   new_good u true e =
       let room = ltb-true (count_of g) LIMIT e in
@@ -426,8 +426,8 @@ module _ (ρ : World) (g : List ℕ) (t : ScalarType) (r : Option Interval) (o :
   insert_made = go (interned g o (words_of t r o)) refl
     where
       go : (x : Option ℕ) → interned g o (words_of t r o) ≡ x → MadeGood (found_or g x (appended g (words_of t r o)))
-      go none e = new_good e (ltb (count_of g) LIMIT) refl
-      go (some n) e = (kept_refl i, found n e)
+      go None e = new_good e (ltb (count_of g) LIMIT) refl
+      go (Some n) e = (kept_refl i, found n e)
 
   -- the node that an insertion answers
   pub insert_leads : (m : ℕ) → (inserted g t r o).answer ≡ insert.id m → Stands ρ g t r o m (inserted g t r o).words

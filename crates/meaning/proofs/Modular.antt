@@ -2,7 +2,7 @@
 use mathlib.Core.Path.{◌≡◌, refl, sym, ap, ◌∙◌, subst}
 use mathlib.Core.Bool.{Bool, true, false, false≢true, ◌&&◌}
 use mathlib.Core.List.{List}
-use mathlib.Core.Option.{Option, some}
+use Rattle.std.specs.Prelude.{Option, Some}
 use Prim.Native.Nat.{ℕ, zero, suc, ◌+◌, ◌-◌, ◌*◌, ◌%◌, ◌^◌, ◌≤◌, ◌<◌}
 use native.Mathlib.Nat.{mod-mod, lt_of_le_of_lt, mod-le}
 use native.Mathlib.Omega.{arith}
@@ -58,10 +58,10 @@ product k a b = a * b % 2 ^ k
 abbrev pub checked : ℤ → Option ℕ
 checked z = mapped (reduced ty.Integer) (mapped (residue 128) (fitted z))
 
-pub checked_is : (z : ℤ) (v : ℕ) → checked z ≡ some v → (v ≡ residue 128 z) × (signed 128 v ≡ z)
+pub checked_is : (z : ℤ) (v : ℕ) → checked z ≡ Some v → (v ≡ residue 128 z) × (signed 128 v ≡ z)
 checked_is z v e = by (fits z) refl e
   where
-    by : (b : Bool) → fits z ≡ b → mapped (reduced ty.Integer) (mapped (residue 128) (only b z)) ≡ some v → (v ≡ residue 128 z) × (signed 128 v ≡ z)
+    by : (b : Bool) → fits z ≡ b → mapped (reduced ty.Integer) (mapped (residue 128) (only b z)) ≡ Some v → (v ≡ residue 128 z) × (signed 128 v ≡ z)
     by true q e =
         let p : v ≡ residue 128 z = sym (some_is e) in
         (p, ap (signed 128) p ∙ signed-residue 128 z (lit< tt) ((fits_below z).0 q))
@@ -103,7 +103,7 @@ module _ (f : ℤ → ℤ → ℤ) (G : ℕ → ℕ → ℕ → ℕ) (law : Resi
     plain n l = sym (residue-narrow (signed 128 n) 128 w wide) ∙ ap (λ (m : ℕ). m % 2 ^ w) (residue-signed 128 n l)
 
     -- a checked result on Integer
-    from_checked : (y : ℕ) → checked (f (signed 128 p) (signed 128 q)) ≡ some y → G 128 (p % 2 ^ w) (q % 2 ^ w) % 2 ^ w ≡ y % 2 ^ w
+    from_checked : (y : ℕ) → checked (f (signed 128 p) (signed 128 q)) ≡ Some y → G 128 (p % 2 ^ w) (q % 2 ^ w) % 2 ^ w ≡ y % 2 ^ w
     from_checked y e =
         low_value
         ∙ sym (residue-narrow (f (signed 128 p) (signed 128 q)) 128 w wide ∙ alike w (signed 128 p) (signed 128 q) (pos p) (pos q) (plain p lp) (plain q lq))
@@ -128,7 +128,7 @@ module _ (F : ℕ → ℕ → ℕ) (parts : Parts F) (w p q : ℕ) where
 -- what is low in a result hangs on what is low in its operands
 module _ (w : ℕ) (wide : w ≤ 128) (p q y : ℕ) (lp : p < 2 ^ 128) (lq : q < 2 ^ 128) where
   abbrev Low : Binary → ScalarType → Type 0
-  Low o s = binary_value o s p q ≡ some y → binary_value o (ty.Bits w) (p % 2 ^ w) (q % 2 ^ w) ≡ some (y % 2 ^ w)
+  Low o s = binary_value o s p q ≡ Some y → binary_value o (ty.Bits w) (p % 2 ^ w) (q % 2 ^ w) ≡ Some (y % 2 ^ w)
 
   low_bits : (o : Binary) → is_any modular_ops o ≡ true → (u : ℕ) → w ≤ u → Low o (ty.Bits u)
   unfolding binary_value
@@ -136,12 +136,12 @@ module _ (w : ℕ) (wide : w ≤ 128) (p q y : ℕ) (lp : p < 2 ^ 128) (lq : q <
       of_any (λ o. (u : ℕ) → w ≤ u → Low o (ty.Bits u)) modular_ops
       (sums ◌+ℤ◌ sum residue-add) (sums ◌-ℤ◌ difference residue-sub) (sums ◌*ℤ◌ product residue-mul) (bits bit_and and_mod) (bits bit_or or_mod) (bits bit_xor xor_mod)
     where
-      sums : (f : ℤ → ℤ → ℤ) (G : ℕ → ℕ → ℕ → ℕ) → Residues f G → (u : ℕ) → w ≤ u → some (G 128 p q % 2 ^ u) ≡ some y
-          → some (G 128 (p % 2 ^ w) (q % 2 ^ w) % 2 ^ w) ≡ some (y % 2 ^ w)
-      sums f G law u l e = ap some (from_bits f G law w wide p q lp lq u l ∙ ap (λ (n : ℕ). n % 2 ^ w) (some_is e))
+      sums : (f : ℤ → ℤ → ℤ) (G : ℕ → ℕ → ℕ → ℕ) → Residues f G → (u : ℕ) → w ≤ u → Some (G 128 p q % 2 ^ u) ≡ Some y
+          → Some (G 128 (p % 2 ^ w) (q % 2 ^ w) % 2 ^ w) ≡ Some (y % 2 ^ w)
+      sums f G law u l e = ap Some (from_bits f G law w wide p q lp lq u l ∙ ap (λ (n : ℕ). n % 2 ^ w) (some_is e))
 
-      bits : (F : ℕ → ℕ → ℕ) → Parts F → (u : ℕ) → w ≤ u → some (F p q % 2 ^ u) ≡ some y → some (F (p % 2 ^ w) (q % 2 ^ w) % 2 ^ w) ≡ some (y % 2 ^ w)
-      bits F a u l e = ap some (bitwise F a w p q ∙ sym (narrow (F p q) u w l) ∙ ap (λ (n : ℕ). n % 2 ^ w) (some_is e))
+      bits : (F : ℕ → ℕ → ℕ) → Parts F → (u : ℕ) → w ≤ u → Some (F p q % 2 ^ u) ≡ Some y → Some (F (p % 2 ^ w) (q % 2 ^ w) % 2 ^ w) ≡ Some (y % 2 ^ w)
+      bits F a u l e = ap Some (bitwise F a w p q ∙ sym (narrow (F p q) u w l) ∙ ap (λ (n : ℕ). n % 2 ^ w) (some_is e))
 
   low_integer : (o : Binary) → is_any modular_ops o ≡ true → Low o ty.Integer
   unfolding binary_value
@@ -149,12 +149,12 @@ module _ (w : ℕ) (wide : w ≤ 128) (p q y : ℕ) (lp : p < 2 ^ 128) (lq : q <
       of_any (λ o. Low o ty.Integer) modular_ops
       (sums ◌+ℤ◌ sum residue-add) (sums ◌-ℤ◌ difference residue-sub) (sums ◌*ℤ◌ product residue-mul) (bits bit_and and_mod) (bits bit_or or_mod) (bits bit_xor xor_mod)
     where
-      sums : (f : ℤ → ℤ → ℤ) (G : ℕ → ℕ → ℕ → ℕ) → Residues f G → checked (f (signed 128 p) (signed 128 q)) ≡ some y
-          → some (G 128 (p % 2 ^ w) (q % 2 ^ w) % 2 ^ w) ≡ some (y % 2 ^ w)
-      sums f G law e = ap some (from_checked f G law w wide p q lp lq y e)
+      sums : (f : ℤ → ℤ → ℤ) (G : ℕ → ℕ → ℕ → ℕ) → Residues f G → checked (f (signed 128 p) (signed 128 q)) ≡ Some y
+          → Some (G 128 (p % 2 ^ w) (q % 2 ^ w) % 2 ^ w) ≡ Some (y % 2 ^ w)
+      sums f G law e = ap Some (from_checked f G law w wide p q lp lq y e)
 
-      bits : (F : ℕ → ℕ → ℕ) → Parts F → some (F p q) ≡ some y → some (F (p % 2 ^ w) (q % 2 ^ w) % 2 ^ w) ≡ some (y % 2 ^ w)
-      bits F a e = ap some (bitwise F a w p q ∙ ap (λ (n : ℕ). n % 2 ^ w) (some_is e))
+      bits : (F : ℕ → ℕ → ℕ) → Parts F → Some (F p q) ≡ Some y → Some (F (p % 2 ^ w) (q % 2 ^ w) % 2 ^ w) ≡ Some (y % 2 ^ w)
+      bits F a e = ap Some (bitwise F a w p q ∙ ap (λ (n : ℕ). n % 2 ^ w) (some_is e))
 
   pub low_result : (o : Binary) → is_any modular_ops o ≡ true → (s : ScalarType) → is_wide s w ≡ true → Low o s
   low_result o m ty.Bool e = absurd (false≢true e)
@@ -165,7 +165,7 @@ module _ (w : ℕ) (wide : w ≤ 128) (p q y : ℕ) (lp : p < 2 ^ 128) (lq : q <
 
 module _ {ρ : World} {g : List ℕ} (i : Inv ρ g) where
   -- a Refine has its source's value
-  pub refine-value : (n : ℕ) → n < count_of g → (p : ℕ) → refined_at g n ≡ some p → (p < n) × (ρ.IsSure → value ρ g n ≡ value ρ g p)
+  pub refine-value : (n : ℕ) → n < count_of g → (p : ℕ) → refined_at g n ≡ Some p → (p < n) × (ρ.IsSure → value ρ g n ≡ value ρ g p)
   unfolding refined_at
   refine-value n l p e = by (operation_at g n) refl e
     where
@@ -174,7 +174,7 @@ module _ {ρ : World} {g : List ℕ} (i : Inv ρ g) where
           inv_step i n l ∙ ap (λ (o : Op). operation_means ρ (type_at g n) o (operand ρ g)) q
           ∙ then_typed (type_at g n) (value ρ g j) (λ x m. (subst (Refined (value ρ g) (type_at g n)) q (i.refined n l sure)) x m)
 
-      by : (o : Op) → operation_at g n ≡ o → refined_of o ≡ some p → (p < n) × (ρ.IsSure → value ρ g n ≡ value ρ g p)
+      by : (o : Op) → operation_at g n ≡ o → refined_of o ≡ Some p → (p < n) × (ρ.IsSure → value ρ g n ≡ value ρ g p)
       by (node.constant c) q r = absurd (none-some r)
       by (node.input j) q r = absurd (none-some r)
       by (node.refine j) q r =
@@ -215,7 +215,7 @@ modular-typed o w =
     of_any (λ o. stored_typed o (ty.Bits w) (ty.Bits w) (ty.Bits w) ≡ true) modular_ops same same same same same same o
 
 module _ {ρ : World} {g : List ℕ} (i : Inv ρ g) (w : ℕ) (wide : w ≤ 128) where
-  truncated-value : (a : ℕ) → unary_means (ty.Bits w) (un.Truncate w) (some a) ≡ some (a % 2 ^ w)
+  truncated-value : (a : ℕ) → unary_means (ty.Bits w) (un.Truncate w) (Some a) ≡ Some (a % 2 ^ w)
   truncated-value a = truncate_valued w a ∙ low_valued w a
 
   module _ (s : ℕ) (l : s < count_of g) (o : Binary) (a b : ℕ) (e : operation_at g s ≡ node.binary o a b) (m : is_any modular_ops o ≡ true)
@@ -235,16 +235,16 @@ module _ {ρ : World} {g : List ℕ} (i : Inv ρ g) (w : ℕ) (wide : w ≤ 128)
         let p = then_is (value ρ g s) (valued (ty.Bits w)) x q in
         let y = p.0 in
         let is : x ≡ y % 2 ^ w = (typed_is (ty.Bits w) (y % 2 ^ w) x p.2).0 in
-        let v : binary_means (type_at g s) o (value ρ g a) (value ρ g b) ≡ some y
+        let v : binary_means (type_at g s) o (value ρ g a) (value ρ g b) ≡ Some y
         = sym (inv_step i s l ∙ ap (λ (r : Op). operation_means ρ (type_at g s) r (operand ρ g)) e) ∙ p.1 in
         let c = then_is (value ρ g a) (λ h. and_then (value ρ g b) (λ k. and_then (binary_value o (type_at g s) h k) (of_type (type_at g s)))) y v in
         let d = then_is (value ρ g b) (λ k. and_then (binary_value o (type_at g s) c.0 k) (of_type (type_at g s))) y c.2 in
         let r = then_is (binary_value o (type_at g s) c.0 d.0) (of_type (type_at g s)) y d.2 in
-        let z : binary_value o (type_at g s) c.0 d.0 ≡ some y = r.1 ∙ ap some (sym (typed_is (type_at g s) r.0 y r.2).0) in
+        let z : binary_value o (type_at g s) c.0 d.0 ≡ Some y = r.1 ∙ ap Some (sym (typed_is (type_at g s) r.0 y r.2).0) in
         let f = low_result w wide c.0 d.0 y (value_pattern i a la c.0 c.1) (value_pattern i b lb d.0 d.1) o m (type_at g s) big z in
         (λ k. binary_means (ty.Bits w) o (unary_means (ty.Bits w) (un.Truncate w) (c.1 k)) (unary_means (ty.Bits w) (un.Truncate w) (d.1 k)))
         ∙ (λ k. binary_means (ty.Bits w) o (truncated-value c.0 k) (truncated-value d.0 k))
-        ∙ ap (λ (k : Option ℕ). and_then k (of_type (ty.Bits w))) f ∙ low_valued w y ∙ ap some (sym is)
+        ∙ ap (λ (k : Option ℕ). and_then k (of_type (ty.Bits w))) f ∙ low_valued w y ∙ ap Some (sym is)
 
     truncated_good : (t : Option ℕ) → (ρ.IsSure → t ≡ value ρ g s) → Claim ρ g (ty.Bits w) (and_then t (valued (ty.Bits w))) (plan.truncated w o a b)
     truncated_good t q = (wide, la, lb, refl, modular-typed o w m, λ sure x r. low_covers x (ap (λ (k : Option ℕ). and_then k (valued (ty.Bits w))) (sym (q sure)) ∙ r))
@@ -270,7 +270,7 @@ module _ {ρ : World} {g : List ℕ} (i : Inv ρ g) (w : ℕ) (wide : w ≤ 128)
         by : (r : View) → Seen i (ty.Bits w) v r → Claim ρ g (ty.Bits w) (and_then (value ρ g v) (valued (ty.Bits w))) (modular_of g w r)
         by (same p) d =
             let a = resolve_leads ρ g i p d.0 in
-            let small : ρ.IsSure → (x : ℕ) → value ρ g v ≡ some x → x < 2 ^ w
+            let small : ρ.IsSure → (x : ℕ) → value ρ g v ≡ Some x → x < 2 ^ w
             = λ sure x m. subst (λ (t : ScalarType). x < size t) d.1 (value_small i p d.0 x (sym (d.2 sure) ∙ m)) in
             record {
               here = a.here;

@@ -2,7 +2,7 @@
 use mathlib.Core.Path.{◌≡◌, refl, sym, ◌∙◌, subst}
 use mathlib.Core.Bool.{true}
 use mathlib.Core.List.{List}
-use mathlib.Core.Option.{Option, none, some}
+use Rattle.std.specs.Prelude.{Option, None, Some}
 use Prim.Native.Nat.{ℕ, zero, suc, ◌^◌, ◌<◌}
 use native.Mathlib.Omega.{arith}
 use lib.IntN.{ℤ}
@@ -33,14 +33,14 @@ use Rattle.meaning.proofs.Undone.{Obeys, Held, Bounded, base_follows}
 -- ---- a range met with limits
 
 -- the greater of an end and a limit, if there is one, is at most what both are at most
-or_low : (a z : ℤ) (o : Option ℤ) → a ≤ℤ z → ((m : ℤ) → o ≡ some m → m ≤ℤ z) → max_z a (or_end o a) ≤ℤ z
-or_low a z none h k = max-le a a z h h
-or_low a z (some m) h k = max-le a m z h (k m refl)
+or_low : (a z : ℤ) (o : Option ℤ) → a ≤ℤ z → ((m : ℤ) → o ≡ Some m → m ≤ℤ z) → max_z a (or_end o a) ≤ℤ z
+or_low a z None h k = max-le a a z h h
+or_low a z (Some m) h k = max-le a m z h (k m refl)
 
 -- the same of the lesser
-or_high : (a z : ℤ) (o : Option ℤ) → z ≤ℤ a → ((m : ℤ) → o ≡ some m → z ≤ℤ m) → z ≤ℤ min_z a (or_end o a)
-or_high a z none h k = le-min a a z h h
-or_high a z (some m) h k = le-min a m z h (k m refl)
+or_high : (a z : ℤ) (o : Option ℤ) → z ≤ℤ a → ((m : ℤ) → o ≡ Some m → z ≤ℤ m) → z ≤ℤ min_z a (or_end o a)
+or_high a z None h k = le-min a a z h h
+or_high a z (Some m) h k = le-min a m z h (k m refl)
 
 -- what lies in a range and between limits lies in what both have in common
 meet_in : (z : ℤ) (a : Interval) (l : Limits) → z ∈ a → Obeys z l → z ∈ (meet a l)
@@ -65,18 +65,18 @@ bounded_ext {ρ} e n l b = record {
 
 module _ {ρ : World} {g : List ℕ} (i : Inv ρ g) (n : ℕ) (q : n < count_of g) (l : Limits) (held : Held ρ g n l) where
   -- a step after which no node follows
-  still : (o : Outcome) (h : List ℕ) → Kept ρ g h → Stepped ρ g (step o none h)
+  still : (o : Outcome) (h : List ℕ) → Kept ρ g h → Stepped ρ g (step o None h)
   still o h k = record { kept = k; next = each_none _ }
 
-  module _ (old : Interval) (e : range_at g n ≡ some old) (t : narrows (type_at g n) old (meet old l) ≡ true) where
+  module _ (old : Interval) (e : range_at g n ≡ Some old) (t : narrows (type_at g n) old (meet old l) ≡ true) where
     -- the range of the Refine
     abbrev new : Interval
     new = meet old l
 
     -- the old one has it inside
-    part : Inside (some new) (some old)
+    part : Inside (Some new) (Some old)
     part =
-        each_some (λ c. (r : Interval) × (some new ≡ some r) × (c.low ≤ℤ r.low) × (r.high ≤ℤ c.high)) old
+        each_some (λ c. (r : Interval) × (Some new ≡ Some r) × (c.low ≤ℤ r.low) × (r.high ≤ℤ c.high)) old
         (new, refl, (met_inside old l).0, (met_inside old l).1)
 
     -- it lies inside the type
@@ -97,11 +97,11 @@ module _ {ρ : World} {g : List ℕ} (i : Inv ρ g) (n : ℕ) (q : n < count_of 
         }
 
     -- the node's value lies in the new range
-    has : ρ.IsSure → (v : ℕ) × (value ρ g n ≡ some v) × ((integer_of (type_at g n) v) ∈ new)
+    has : ρ.IsSure → (v : ℕ) × (value ρ g n ≡ Some v) × ((integer_of (type_at g n) v) ∈ new)
     has sure = let (v, ev, o) = held sure in (v, ev, meet_in _ old l (i.ranged n q sure v ev old e) o)
 
     -- the Refine may be stored
-    storable : Storable ρ g (type_at g n) (some new) (node.refine n)
+    storable : Storable ρ g (type_at g n) (Some new) (node.refine n)
     storable =
         refine_storable i n q (type_at g n) (inv_width i n q) new new_valid new_ends
         (λ sure x ex.
@@ -111,13 +111,13 @@ module _ {ρ : World} {g : List ℕ} (i : Inv ρ g) (n : ℕ) (q : n < count_of 
 
     -- the words after the insertion
     abbrev h : List ℕ
-    h = (inserted g (type_at g n) (some new) (node.refine n)).words
+    h = (inserted g (type_at g n) (Some new) (node.refine n)).words
 
     -- whatever it answers
-    alias_stepped : (r : Reply) → (inserted g (type_at g n) (some new) (node.refine n)).answer ≡ r
+    alias_stepped : (r : Reply) → (inserted g (type_at g n) (Some new) (node.refine n)).answer ≡ r
         → Answered ρ g (type_at g n) (operation_means ρ (type_at g n) (node.refine n) (operand ρ g)) r h → Stepped ρ g (alias_to n new r h)
     alias_stepped (insert.id m) d k =
-        let s = insert_leads ρ g (type_at g n) (some new) (node.refine n) i storable m d in
+        let s = insert_leads ρ g (type_at g n) (Some new) (node.refine n) i storable m d in
         let x = k.0.grows in
         let lead : Leads ρ h n m = record {
           here = s.here;
@@ -125,7 +125,7 @@ module _ {ρ : World} {g : List ℕ} (i : Inv ρ g) (n : ℕ) (q : n < count_of 
           means = s.means ∙ then_typed (type_at g n) (value ρ g n) (value_small i n q) ∙ sym (ext_value ρ x n q);
           inside =
               rw (ext_range x n q, e)
-              (inside_trans (range_at h m) (some new) (some old) s.inside part);
+              (inside_trans (range_at h m) (Some new) (Some old) s.inside part);
         } in
         let up : n < m = (let b = s.above in omega arith) in
         let w = kept_trans k.0 (aliased_kept ρ k.0.inv n m up lead) in
@@ -150,8 +150,8 @@ module _ {ρ : World} {g : List ℕ} (i : Inv ρ g) (n : ℕ) (q : n < count_of 
       (λ old e.
       by_test (Stepped ρ g) (narrows (type_at g n) old (meet old l))
       (λ t.
-      alias_stepped old e t (inserted g (type_at g n) (some (meet old l)) (node.refine n)).answer refl
-      (insert_good ρ g (type_at g n) (some (meet old l)) (node.refine n) i (storable old e t)))
+      alias_stepped old e t (inserted g (type_at g n) (Some (meet old l)) (node.refine n)).answer refl
+      (insert_good ρ g (type_at g n) (Some (meet old l)) (node.refine n) i (storable old e t)))
       (λ t. still unchanged g (kept_refl i)))
       (λ e. still unchanged g (kept_refl i))
 
@@ -175,8 +175,8 @@ module _ {ρ : World} where
           → Kept ρ g (go_on so o x h (refine_up_to k narrowed)).words
       go unchanged x h w f = w
       go full x h w f = w
-      go narrowed none h w f = w
-      go narrowed (some x) h w f = kept_trans w (f w.inv x refl)
+      go narrowed None h w f = w
+      go narrowed (Some x) h w f = kept_trans w (f w.inv x refl)
 
   -- a node refined to limits that hold of its value
   pub refined_kept : (so : Outcome) {g : List ℕ} → Inv ρ g → (n : ℕ) (l : Limits) → Bounded ρ g n l → Kept ρ g (refined so g n l).words

@@ -2,7 +2,7 @@
 use mathlib.Core.Path.{◌≡◌, refl, sym, ap, ◌∙◌, subst}
 use mathlib.Core.Bool.{Bool, true, false, cond, not, false≢true, ◌&&◌}
 use mathlib.Core.List.{List}
-use mathlib.Core.Option.{Option, none, some}
+use Rattle.std.specs.Prelude.{Option, None, Some}
 use Prim.Native.Nat.{ℕ, ◌+◌, ◌-◌, ◌%◌, ◌^◌, ◌≤◌, ◌<◌}
 use native.Mathlib.Nat.{add_comm, mul_comm, mod-lt, lt_of_le_of_lt}
 use native.Mathlib.Omega.{arith}
@@ -80,10 +80,10 @@ module _ (t : ScalarType) (a b : ℕ) where
   unfolding binary_value
   value_swap =
       of_any ValueSwap commutative
-      (λ z. mapped (reduced t) (by_type t (mapped (residue 128) (fitted (+ℤ_comm (signed 128 b) (signed 128 a) z))) (some (add_comm b a z % 2 ^ 128))))
-      (λ z. mapped (reduced t) (by_type t (mapped (residue 128) (fitted (*ℤ_comm (signed 128 b) (signed 128 a) z))) (some (mul_comm b a z % 2 ^ 128))))
-      (λ z. some (reduced t (and_comm b a z))) (λ z. some (reduced t (or_comm b a z))) (λ z. some (reduced t (xor_comm b a z)))
-      (λ z. some (reduced t (from_bool (eqb_sym b a z)))) (λ z. some (reduced t (from_bool (not (eqb_sym b a z)))))
+      (λ z. mapped (reduced t) (by_type t (mapped (residue 128) (fitted (+ℤ_comm (signed 128 b) (signed 128 a) z))) (Some (add_comm b a z % 2 ^ 128))))
+      (λ z. mapped (reduced t) (by_type t (mapped (residue 128) (fitted (*ℤ_comm (signed 128 b) (signed 128 a) z))) (Some (mul_comm b a z % 2 ^ 128))))
+      (λ z. Some (reduced t (and_comm b a z))) (λ z. Some (reduced t (or_comm b a z))) (λ z. Some (reduced t (xor_comm b a z)))
+      (λ z. Some (reduced t (from_bool (eqb_sym b a z)))) (λ z. Some (reduced t (from_bool (not (eqb_sym b a z)))))
 
 module _ {ρ : World} {g : List ℕ} (i : Inv ρ g) (t : ScalarType) (o : Binary) (l r : ℕ) (k : Callable g (binary t o l r)) where
   pub swapped_claim : is_any commutative o ≡ true → Claim ρ g t (binary_means t o (value ρ g l) (value ρ g r)) (plan.binary t o r l)
@@ -99,7 +99,7 @@ module _ {ρ : World} {g : List ℕ} (i : Inv ρ g) (t : ScalarType) (o : Binary
 
 -- a sum, a difference or a product, by the type
 abbrev arithmetics : (ℤ → ℤ → ℤ) → (ℕ → ℕ → ℕ → ℕ) → ScalarType → ℕ → ℕ → Option ℕ
-arithmetics f G t x y = mapped (reduced t) (by_type t (mapped (residue 128) (fitted (f (signed 128 x) (signed 128 y)))) (some (G 128 x y)))
+arithmetics f G t x y = mapped (reduced t) (by_type t (mapped (residue 128) (fitted (f (signed 128 x) (signed 128 y)))) (Some (G 128 x y)))
 
 -- f by c and then by d is f by their sum
 module _ (f : ℤ → ℤ → ℤ) (G : ℕ → ℕ → ℕ → ℕ) (law : Residues f G) (assoc : (x c d : ℤ) → f (f x c) d ≡ f x (c +ℤ d)) (x c d v k : ℕ) where
@@ -112,7 +112,7 @@ module _ (f : ℤ → ℤ → ℤ) (G : ℕ → ℕ → ℕ → ℕ) (law : Resi
       ∙ ap (residue w) (assoc (pos x) (pos c) (pos d)) ∙ sym (alike f G law w (pos x) (pos k) (pos x) (pos c +ℤ pos d) refl pk)
       ∙ sym (in_bits f G law w wide x k lx (pattern (ty.Bits w) k wide lk))
 
-  merged_integer : checked (f (signed 128 x) (signed 128 c)) ≡ some v → checked (signed 128 c +ℤ signed 128 d) ≡ some k
+  merged_integer : checked (f (signed 128 x) (signed 128 c)) ≡ Some v → checked (signed 128 c +ℤ signed 128 d) ≡ Some k
       → checked (f (signed 128 v) (signed 128 d)) ≡ checked (f (signed 128 x) (signed 128 k))
   merged_integer ev ek =
       let pv = (checked_is (f (signed 128 x) (signed 128 c)) v ev).1 in
@@ -121,16 +121,16 @@ module _ (f : ℤ → ℤ → ℤ) (G : ℕ → ℕ → ℕ → ℕ) (law : Resi
       ((λ z. f (pv z) (signed 128 d)) ∙ assoc (signed 128 x) (signed 128 c) (signed 128 d) ∙ (λ z. f (signed 128 x) (sym pk z)))
 
   merges : (t : ScalarType) → is_number t ≡ true → type_width t ≤ 128 → x < 2 ^ 128 → c < 2 ^ 128 → d < 2 ^ 128 → v < size t → k < size t
-      → arithmetics f G t x c ≡ some v → arithmetics ◌+ℤ◌ sum t c d ≡ some k → arithmetics f G t v d ≡ arithmetics f G t x k
+      → arithmetics f G t x c ≡ Some v → arithmetics ◌+ℤ◌ sum t c d ≡ Some k → arithmetics f G t v d ≡ arithmetics f G t x k
   merges ty.Bool n wide lx lc ld lv lk ev ek = absurd (false≢true n)
-  merges (ty.Bits w) n wide lx lc ld lv lk ev ek = ap some (merged_bits w wide lx lc ld lv lk (some_is ev) (some_is ek))
+  merges (ty.Bits w) n wide lx lc ld lv lk ev ek = ap Some (merged_bits w wide lx lc ld lv lk (some_is ev) (some_is ek))
   merges ty.Integer n wide lx lc ld lv lk ev ek = merged_integer ev ek
 
 less_assoc : (x c d : ℤ) → x -ℤ c -ℤ d ≡ x -ℤ (c +ℤ d)
 less_assoc x c d = +ℤ_assoc x (neg_ℤ c) (neg_ℤ d) ∙ ap (λ (z : ℤ). x +ℤ z) (sym (neg_ℤ-+ℤ c d))
 
 -- a sum is of its type
-sum_small : (t : ScalarType) (c d k : ℕ) → is_number t ≡ true → binary_value bi.Add t c d ≡ some k → k < size t
+sum_small : (t : ScalarType) (c d k : ℕ) → is_number t ≡ true → binary_value bi.Add t c d ≡ Some k → k < size t
 unfolding binary_value
 sum_small ty.Bool c d k n e = absurd (false≢true n)
 sum_small (ty.Bits w) c d k n e = subst (λ (m : ℕ). m < 2 ^ w) (some_is e) (mod-lt (u128.wrapping_add c d) (pow_pos w))
@@ -140,8 +140,8 @@ sum_small ty.Integer c d k n e =
 
 -- an operation by c and then by d is one by their sum
 abbrev Merges : Binary → ScalarType → Type 0
-Merges o t = (x c d v k : ℕ) → x < 2 ^ 128 → c < 2 ^ 128 → d < 2 ^ 128 → v < size t → k < size t → binary_value o t x c ≡ some v
-    → binary_value bi.Add t c d ≡ some k → binary_value o t v d ≡ binary_value o t x k
+Merges o t = (x c d v k : ℕ) → x < 2 ^ 128 → c < 2 ^ 128 → d < 2 ^ 128 → v < size t → k < size t → binary_value o t x c ≡ Some v
+    → binary_value bi.Add t c d ≡ Some k → binary_value o t v d ≡ binary_value o t x k
 
 add_merges : (t : ScalarType) → is_number t ≡ true → type_width t ≤ 128 → Merges bi.Add t
 unfolding binary_value
@@ -162,11 +162,11 @@ pub record Link (ρ : World) (g : List ℕ) (n : ℕ) (c : ByConstant) (t : Scal
   pub here : c.base < count_of g
   pub type : type_at g c.base ≡ t
   pub small : c.value < size t
-  pub means : (y : ℕ) → value ρ g n ≡ some y → (x : ℕ) × (value ρ g c.base ≡ some x) × (binary_value c.op t x c.value ≡ some y)
+  pub means : (y : ℕ) → value ρ g n ≡ Some y → (x : ℕ) × (value ρ g c.base ≡ Some x) × (binary_value c.op t x c.value ≡ Some y)
 
 module _ {ρ : World} {g : List ℕ} (i : Inv ρ g) where
   -- a node that is a sum or a difference by a constant
-  pub link : (n : ℕ) (c : ByConstant) (t : ScalarType) → n < count_of g → type_at g n ≡ t → by_constant_at g n ≡ some c → Arithmetic c.op → Link ρ g n c t
+  pub link : (n : ℕ) (c : ByConstant) (t : ScalarType) → n < count_of g → type_at g n ≡ t → by_constant_at g n ≡ Some c → Arithmetic c.op → Link ρ g n c t
   link n c t l q e a =
       let s = linked g n c e in
       let h = by_constant_here i n l c s in
@@ -181,13 +181,13 @@ module _ {ρ : World} {g : List ℕ} (i : Inv ρ g) where
 
 -- ---- a remainder or a sum by a constant
 
-module _ {ρ : World} {g : List ℕ} (i : Inv ρ g) (t : ScalarType) (l r c : ℕ) (lit : literal g r ≡ some c) where
+module _ {ρ : World} {g : List ℕ} (i : Inv ρ g) (t : ScalarType) (l r c : ℕ) (lit : literal g r ≡ Some c) where
   abbrev means : Binary → Option ℕ
   means o = binary_means t o (value ρ g l) (value ρ g r)
 
   -- one operation by another constant, on another node
   by_constant_lem : (o u : Binary) (n v : ℕ) → Callable g (binary t o l r) → n < count_of g → stored_typed u (type_at g n) t t ≡ true → v < size t
-      → ((y : ℕ) → value ρ g l ≡ some y → (x : ℕ) × (value ρ g n ≡ some x) × (binary_value u t x v ≡ binary_value o t y c))
+      → ((y : ℕ) → value ρ g l ≡ Some y → (x : ℕ) × (value ρ g n ≡ Some x) × (binary_value u t x v ≡ binary_value o t y c))
       → ByConstantClaim ρ g t (means o) t v t u n
   by_constant_lem o u n v k here typed small law = (
     record { width = k.0; small = subst (λ (m : ℕ). m < size t) (sym (reduced_same t v small)) small },
@@ -199,7 +199,7 @@ module _ {ρ : World} {g : List ℕ} (i : Inv ρ g) (t : ScalarType) (l r c : �
         let s = operands ρ g t o l r x e in
         let q = law s.x s.left in
         let d : c ≡ s.y = some_is (sym (literal-value ρ g i r c k.2 lit) ∙ s.right) in
-        (λ z. binary_means t u (q.1 z) (some (reduced_same t v small z))) ∙ ap (λ (m : Option ℕ). and_then m (of_type t)) q.2
+        (λ z. binary_means t u (q.1 z) (Some (reduced_same t v small z))) ∙ ap (λ (m : Option ℕ). and_then m (of_type t)) q.2
         ∙ (λ z. and_then (binary_value o t s.x (d z)) (of_type t)) ∙ s.means,
   )
 
@@ -213,7 +213,7 @@ module _ {ρ : World} {g : List ℕ} (i : Inv ρ g) (t : ScalarType) (l r c : �
       (lt_of_le_of_lt (let q : c - 1 ≤ c = omega arith in q) b) (λ y ey. (y, ey, sym (remainder_power t y c e)))
 
   merged : (o : Binary) (h : ByConstant) (v : ℕ) → Callable g (binary t o l r) → Arithmetic o → (is_number t ≡ true → type_width t ≤ 128 → Merges o t)
-      → by_constant_at g l ≡ some h → h.op ≡ o → binary_value bi.Add t h.value c ≡ some v → ByConstantClaim ρ g t (means o) t v t o h.base
+      → by_constant_at g l ≡ Some h → h.op ≡ o → binary_value bi.Add t h.value c ≡ Some v → ByConstantClaim ρ g t (means o) t v t o h.base
   merged o h v k a law e q ev =
       let p = arithmetic_types (type_at g l) (type_at g r) t (sym (a (type_at g l) (type_at g r) t) ∙ k.3) in
       let s = link i l h t k.1 p.1 e (subst Arithmetic (sym q) a) in
@@ -228,21 +228,21 @@ module _ {ρ : World} {g : List ℕ} (i : Inv ρ g) (t : ScalarType) (l r c : �
             ((λ z. binary_value (sym q z) t d.0 h.value) ∙ d.2) ev),
       ))
 
-  add_claim : (h : ByConstant) → Callable g (binary t bi.Add l r) → by_constant_at g l ≡ some h → h.op ≡ bi.Add
+  add_claim : (h : ByConstant) → Callable g (binary t bi.Add l r) → by_constant_at g l ≡ Some h → h.op ≡ bi.Add
       → Claim ρ g t (means bi.Add) (merged_plan t bi.Add h.base (binary_value bi.Add t h.value c))
   add_claim h k e q = by (binary_value bi.Add t h.value c) refl
     where
       by : (v : Option ℕ) → binary_value bi.Add t h.value c ≡ v → Claim ρ g t (means bi.Add) (merged_plan t bi.Add h.base v)
-      by none d = tt
-      by (some v) d = merged bi.Add h v k (λ a b s. refl) (add_merges t) e q d
+      by None d = tt
+      by (Some v) d = merged bi.Add h v k (λ a b s. refl) (add_merges t) e q d
 
-  sub_claim : (h : ByConstant) (p : Plan) → Callable g (binary t bi.Sub l r) → by_constant_at g l ≡ some h → h.op ≡ bi.Sub
-      → sub_of_sub t h.base (binary_value bi.Add t h.value c) ≡ some p → Claim ρ g t (means bi.Sub) p
+  sub_claim : (h : ByConstant) (p : Plan) → Callable g (binary t bi.Sub l r) → by_constant_at g l ≡ Some h → h.op ≡ bi.Sub
+      → sub_of_sub t h.base (binary_value bi.Add t h.value c) ≡ Some p → Claim ρ g t (means bi.Sub) p
   sub_claim h p k e q = by (binary_value bi.Add t h.value c) refl
     where
-      by : (v : Option ℕ) → binary_value bi.Add t h.value c ≡ v → sub_of_sub t h.base v ≡ some p → Claim ρ g t (means bi.Sub) p
-      by none d f = absurd (none-some f)
-      by (some v) d f = subst (Claim ρ g t (means bi.Sub)) (some_is f) (merged bi.Sub h v k (λ a b s. refl) (sub_merges t) e q d)
+      by : (v : Option ℕ) → binary_value bi.Add t h.value c ≡ v → sub_of_sub t h.base v ≡ Some p → Claim ρ g t (means bi.Sub) p
+      by None d f = absurd (none-some f)
+      by (Some v) d f = subst (Claim ρ g t (means bi.Sub)) (some_is f) (merged bi.Sub h v k (λ a b s. refl) (sub_merges t) e q d)
 
 -- ---- sums compared with constants
 
@@ -283,11 +283,11 @@ pub equality_value : (t : ScalarType) (a b x y : ℕ) → eqb a b ≡ eqb x y �
 unfolding binary_value
 equality_value t a b x y e =
     of_any (λ (o : Binary). binary_value o t a b ≡ binary_value o t x y) equalities
-    (λ z. some (reduced t (from_bool (e z)))) (λ z. some (reduced t (from_bool (not (e z)))))
+    (λ z. Some (reduced t (from_bool (e z)))) (λ z. Some (reduced t (from_bool (not (e z)))))
 
 -- an operator by a constant of Bits(w), and the constant that its base is compared with
 abbrev pub Shifts : Binary → ℕ → ℕ → ℕ → ℕ → Type 0
-Shifts o w c b v = (x y : ℕ) → x < 2 ^ w → binary_value o (ty.Bits w) x c ≡ some y → eqb y b ≡ eqb x (v % 2 ^ w)
+Shifts o w c b v = (x y : ℕ) → x < 2 ^ w → binary_value o (ty.Bits w) x c ≡ Some y → eqb y b ≡ eqb x (v % 2 ^ w)
 
 module _ (w c b : ℕ) (wide : w ≤ 128) (lc : c < 2 ^ w) (lb : b < 2 ^ w) where
   pub add-shifts : Shifts bi.Add w c b (u128.wrapping_sub b c)
@@ -306,7 +306,7 @@ module _ {ρ : World} {g : List ℕ} (i : Inv ρ g) (t : ScalarType) (o : Binary
   renamed : (u : Binary) (p : Plan) → o ≡ u → (Callable g (binary t u l r) → Claim ρ g t (asked u) p) → Claim ρ g t (asked o) p
   renamed u p e f = subst (λ (q : Binary). Claim ρ g t (asked q) p) (sym e) (f (subst (λ (q : Binary). Callable g (binary t q l r)) e k))
 
-  pub sum_claim : (c : ℕ) → literal g r ≡ some c → (p : Plan) → sum_plan g t o l c ≡ some p → Claim ρ g t (binary_means t o (value ρ g l) (value ρ g r)) p
+  pub sum_claim : (c : ℕ) → literal g r ≡ Some c → (p : Plan) → sum_plan g t o l c ≡ Some p → Claim ρ g t (binary_means t o (value ρ g l) (value ρ g r)) p
   sum_claim c lit =
       each_or (Claim ρ g t (asked o)) _
       (each_provided (Claim ρ g t (asked o)) (same_binary o bi.RemainderUnsigned && is_power_of_two c)
@@ -328,7 +328,7 @@ module _ {ρ : World} {g : List ℕ} (i : Inv ρ g) (t : ScalarType) (o : Binary
       let s = tests (same_binary o bi.Sub) (same_binary h.op bi.Sub) b in
       renamed bi.Sub p (binary_is o bi.Sub s.0) (λ n. sub_claim i t l r c lit h p n d (binary_is h.op bi.Sub s.1) e)))))
 
-  module _ (eq : is_any equalities o ≡ true) (b : ℕ) (lit : literal g r ≡ some b) (w : ℕ) (tl : type_at g l ≡ ty.Bits w) (c : ByConstant) (e : by_constant_at g l ≡ some c) where
+  module _ (eq : is_any equalities o ≡ true) (b : ℕ) (lit : literal g r ≡ Some b) (w : ℕ) (tl : type_at g l ≡ ty.Bits w) (c : ByConstant) (e : by_constant_at g l ≡ Some c) where
     tr : type_at g r ≡ ty.Bits w
     tr = sym (equality_typed (type_at g l) (type_at g r) t o eq k.3) ∙ tl
 
@@ -351,12 +351,12 @@ module _ {ρ : World} {g : List ℕ} (i : Inv ρ g) (t : ScalarType) (o : Binary
               let y : b ≡ d.y = some_is (sym (literal-value ρ g i r b k.2 lit) ∙ d.right) in
               let small : h.0 < 2 ^ w = subst (λ (m : ScalarType). h.0 < size m) s.type (value_small i c.base s.here h.0 h.1) in
               let same = law s.small lb h.0 d.x small h.2 in
-              (λ z. binary_means t o (h.1 z) (some (v % 2 ^ w)))
+              (λ z. binary_means t o (h.1 z) (Some (v % 2 ^ w)))
               ∙ ap (λ (m : Option ℕ). and_then m (of_type t)) (sym (equality_value t d.x b h.0 (v % 2 ^ w) same o eq))
               ∙ (λ z. and_then (binary_value o t d.x (y z)) (of_type t)) ∙ d.means,
         )
 
-    compared_claim : (p : Plan) → offset_compared t o w b c ≡ some p → Claim ρ g t (asked o) p
+    compared_claim : (p : Plan) → offset_compared t o w b c ≡ Some p → Claim ρ g t (asked o) p
     compared_claim =
         each_given (Claim ρ g t (asked o)) _ (λ v d. let s = moves v d in each_some (Claim ρ g t (asked o)) _ (shifted v s.0 s.1))
       where
@@ -364,7 +364,7 @@ module _ {ρ : World} {g : List ℕ} (i : Inv ρ g) (t : ScalarType) (o : Binary
         Moves : Binary → ℕ → Type 0
         Moves u v = Arithmetic u × (c.value < 2 ^ w → b < 2 ^ w → Shifts u w c.value b v)
 
-        moves : Each (Moves c.op) (cond (same_binary c.op bi.Sub) (some (u128.wrapping_add b c.value)) (only (same_binary c.op bi.Add) (u128.wrapping_sub b c.value)))
+        moves : Each (Moves c.op) (cond (same_binary c.op bi.Sub) (Some (u128.wrapping_add b c.value)) (only (same_binary c.op bi.Add) (u128.wrapping_sub b c.value)))
         moves =
             by_test (Each (Moves c.op)) (same_binary c.op bi.Sub)
             (λ q.
@@ -376,12 +376,12 @@ module _ {ρ : World} {g : List ℕ} (i : Inv ρ g) (t : ScalarType) (o : Binary
             each_some (Moves c.op) _
             (subst (λ (u : Binary). Moves u (u128.wrapping_sub b c.value)) (sym (binary_is c.op bi.Add d)) (λ a b s. refl, add-shifts w c.value b wide))))
 
-  pub offset_claim : (p : Plan) → offset_plan g t o l (literal g r) ≡ some p → Claim ρ g t (binary_means t o (value ρ g l) (value ρ g r)) p
+  pub offset_claim : (p : Plan) → offset_plan g t o l (literal g r) ≡ Some p → Claim ρ g t (binary_means t o (value ρ g l) (value ρ g r)) p
   offset_claim =
       each_provided (Claim ρ g t (asked o)) (is_any equalities o)
       (λ q. each_given (Claim ρ g t (asked o)) (literal g r) (λ b lit. typed b q lit (type_at g l) refl))
     where
-      typed : (b : ℕ) → is_any equalities o ≡ true → literal g r ≡ some b → (s : ScalarType) → type_at g l ≡ s
+      typed : (b : ℕ) → is_any equalities o ≡ true → literal g r ≡ Some b → (s : ScalarType) → type_at g l ≡ s
           → Each (Claim ρ g t (asked o)) (offset_typed g t o l b s)
       typed b q lit ty.Bool tl = each_none _
       typed b q lit (ty.Bits w) tl =

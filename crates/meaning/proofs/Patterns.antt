@@ -1,6 +1,6 @@
 -- Values handed in are 128-bit patterns: what a list of calls takes them for, and that it changes none that is one. Assumes nothing.
 use mathlib.Core.Path.{◌≡◌, refl, ap, subst}
-use mathlib.Core.Option.{Option, none, some}
+use Rattle.std.specs.Prelude.{Option, None, Some}
 use Prim.Native.Nat.{◌^◌, ◌<◌}
 use native.Mathlib.Nat.{mod-lt, mod-eq_of_lt}
 use lib.Dec.{lit<}
@@ -16,7 +16,7 @@ use Rattle.meaning.proofs.Invariant.{Ends}
 -- a constant is below 2 ^ 128, the ends of a range are 128-bit numbers
 abbrev pub Pattern : Request → Type 0
 Pattern (asks.constant t v) = v < 2 ^ 128
-Pattern (asks.input i t r) = (a : Interval) → r ≡ some a → Ends a
+Pattern (asks.input i t r) = (a : Interval) → r ≡ Some a → Ends a
 Pattern (asks.effect i t) = Unit {0}
 Pattern (asks.unary t o v) = Unit {0}
 Pattern (asks.binary t o l r) = Unit {0}
@@ -26,9 +26,9 @@ Pattern (asks.unsigned_range v low high) = Unit {0}
 Pattern (asks.guard n e) = Unit {0}
 Pattern (asks.unnamed ws is) = Unit {0}
 
-signed-ends : (r : Option Interval) (a : Interval) → signed_ends r ≡ some a → Ends a
-signed-ends none a e = absurd (none-some e)
-signed-ends (some b) a e =
+signed-ends : (r : Option Interval) (a : Interval) → signed_ends r ≡ Some a → Ends a
+signed-ends None a e = absurd (none-some e)
+signed-ends (Some b) a e =
     subst Ends (some_is e)
     (record { low = signed_mag 128 _ (lit< tt) (residue-lt 128 b.low); high = signed_mag 128 _ (lit< tt) (residue-lt 128 b.high) })
 
@@ -46,11 +46,11 @@ patterned_is (asks.unnamed ws is) = tt
 
 -- ---- a request with such values is performed as it is
 
-ends_same : (r : Option Interval) → ((a : Interval) → r ≡ some a → Ends a) → signed_ends r ≡ r
-ends_same none e = refl
-ends_same (some a) e =
+ends_same : (r : Option Interval) → ((a : Interval) → r ≡ Some a → Ends a) → signed_ends r ≡ r
+ends_same None e = refl
+ends_same (Some a) e =
     let p = e a refl in
-    ap some (λ i. record { low = signed-residue 128 a.low (lit< tt) p.low i; high = signed-residue 128 a.high (lit< tt) p.high i })
+    ap Some (λ i. record { low = signed-residue 128 a.low (lit< tt) p.low i; high = signed-residue 128 a.high (lit< tt) p.high i })
 
 pub patterned_same : (q : Request) → Pattern q → patterned q ≡ q
 patterned_same (asks.constant t v) p = ap (asks.constant t) (mod-eq_of_lt p)

@@ -2,7 +2,7 @@
 use mathlib.Core.Path.{◌≡◌, refl, ap, ◌∙◌}
 use mathlib.Core.Bool.{true}
 use mathlib.Core.List.{List}
-use mathlib.Core.Option.{Option, some}
+use Rattle.std.specs.Prelude.{Option, Some}
 use Prim.Native.Nat.{ℕ, ◌≤◌, ◌<◌}
 use native.Mathlib.Nat.{mod-lt}
 use borrow.Author.Tests.{eq-eqb}
@@ -33,7 +33,7 @@ use Rattle.meaning.proofs.Tree.{type_of, meaning, Callable, Good}
 
 -- every value of a is one of b
 abbrev pub Covers : Option ℕ → Option ℕ → Type 0
-Covers a b = (v : ℕ) → a ≡ some v → b ≡ some v
+Covers a b = (v : ℕ) → a ≡ Some v → b ≡ Some v
 
 pub then_covers : (a b : Option ℕ) (f : ℕ → Option ℕ) → Covers a b → Covers (and_then a f) (and_then b f)
 then_covers a b f c x e = let p = then_is a f x e in rw (c p.0 p.1) p.2
@@ -67,13 +67,13 @@ module _ (ρ : World) (g : List ℕ) (t : ScalarType) (w : Option ℕ) where
   abbrev pub ByConstantClaim : ScalarType → ℕ → ScalarType → Binary → ℕ → Type 0
   ByConstantClaim s v t' o n =
       Number s v × (t' ≡ t) × (type_width t' ≤ 128) × (n < count_of g) × (stored_typed o (type_at g n) s t' ≡ true)
-      × (ρ.IsSure → Covers w (binary_means t' o (value ρ g n) (some (reduced s v))))
+      × (ρ.IsSure → Covers w (binary_means t' o (value ρ g n) (Some (reduced s v))))
 
   -- what a plan says of the type t and the value w that are asked for
   abbrev pub Claim : Plan → Type 0
   Claim (plan.give n) = Found ρ t w n g
   Claim plan.stop = Unit {0}
-  Claim (plan.constant s v) = (s ≡ t) × Number s v × (ρ.IsSure → Covers w (some (reduced s v)))
+  Claim (plan.constant s v) = (s ≡ t) × Number s v × (ρ.IsSure → Covers w (Some (reduced s v)))
   Claim (plan.add s r o) = (s ≡ t) × Storable ρ g s r o × (ρ.IsSure → Covers w (operation_means ρ s o (operand ρ g)))
   Claim (plan.identity s n) = Tail (identity s n)
   Claim (plan.unary s o n) = Tail (unary s o n)
@@ -83,11 +83,11 @@ module _ (ρ : World) (g : List ℕ) (t : ScalarType) (w : Option ℕ) where
       Callable g (slice n o v) × (s ≡ t) × (type_width s ≤ 128) × (ρ.IsSure → Covers w (and_then (slice_means (ty.Bits v) o (value ρ g n)) (valued s)))
   Claim (plan.slice_shift n v s c) =
       Callable g (slice n 0 v) × (s ≡ t) × (type_width s ≤ 128) × Number ty.Integer c × (shiftable (ty.Bits v) s ≡ true)
-      × (ρ.IsSure → Covers w (binary_means s bi.ShiftLeft (slice_means (ty.Bits v) 0 (value ρ g n)) (some (reduced ty.Integer c))))
+      × (ρ.IsSure → Covers w (binary_means s bi.ShiftLeft (slice_means (ty.Bits v) 0 (value ρ g n)) (Some (reduced ty.Integer c))))
   Claim (plan.constant_binary s v t' o n) = ByConstantClaim s v t' o n
   Claim (plan.and_or s n m v) =
       Callable g (binary s bi.And n m) × (s ≡ t) × Number s v × (stored_typed bi.Or s s s ≡ true)
-      × (ρ.IsSure → Covers w (binary_means s bi.Or (binary_means s bi.And (value ρ g n) (value ρ g m)) (some (reduced s v))))
+      × (ρ.IsSure → Covers w (binary_means s bi.Or (binary_means s bi.And (value ρ g n) (value ρ g m)) (Some (reduced s v))))
   Claim (plan.truncated v o l r) =
       (v ≤ 128) × (l < count_of g) × (r < count_of g) × (ty.Bits v ≡ t) × (stored_typed o (ty.Bits v) (ty.Bits v) (ty.Bits v) ≡ true)
       × (ρ.IsSure → Covers w
@@ -106,8 +106,8 @@ module _ (ρ : World) (g : List ℕ) (t : ScalarType) (w : Option ℕ) where
       × (stored_typed bi.And (type_at g m.base) m.type m.type ≡ true) × (m.result ≡ t) × (type_width m.result ≤ 128)
       × (stored_typed m.op m.type m.type m.result ≡ true)
       × (ρ.IsSure → Covers w
-      (binary_means m.result m.op (binary_means m.type bi.And (value ρ g m.base) (some (reduced m.type m.mask)))
-      (some (reduced m.type m.literal))))
+      (binary_means m.result m.op (binary_means m.type bi.And (value ρ g m.base) (Some (reduced m.type m.mask)))
+      (Some (reduced m.type m.literal))))
 
   -- a fold that may come to None
   abbrev pub Trying : Attempt → Type 0
@@ -130,7 +130,7 @@ module _ (ρ : World) (t : ScalarType) (w : Option ℕ) where
 
   -- a constant, and what follows it
   pub constant_good : (g : List ℕ) (s : ScalarType) (v : ℕ) (k : ℕ → Prog) → Number s v
-      → ((n : ℕ) (h : List ℕ) → Kept ρ g h → n < count_of h → type_at h n ≡ s → (ρ.IsSure → value ρ h n ≡ some (reduced s v)) → Good ρ t w (k n) h)
+      → ((n : ℕ) (h : List ℕ) → Kept ρ g h → n < count_of h → type_at h n ≡ s → (ρ.IsSure → value ρ h n ≡ Some (reduced s v)) → Good ρ t w (k n) h)
       → Good ρ t w (constant_then s v k) g
   constant_good g s v k m r = (
     constant_storable ρ g s (reduced s v) m.width m.small,
@@ -174,7 +174,7 @@ module _ (ρ : World) (t : ScalarType) (w : Option ℕ) where
           f.here,
           rw (f.type, k.4) refl,
           λ y x e.
-              binary_covers s bi.ShiftLeft (slice_means (ty.Bits v) 0 (value ρ g n)) (some (reduced ty.Integer c)) (value ρ h m) (some (reduced ty.Integer c)) (f.means y)
+              binary_covers s bi.ShiftLeft (slice_means (ty.Bits v) 0 (value ρ g n)) (Some (reduced ty.Integer c)) (value ρ h m) (Some (reduced ty.Integer c)) (f.means y)
               (λ z q. q) x (k.5 y x e),
         ),
   )
@@ -189,7 +189,7 @@ module _ (ρ : World) (t : ScalarType) (w : Option ℕ) where
           f.here,
           ap (λ (q : ScalarType). stored_typed bi.Or q s s) f.type ∙ k.3,
           λ y x e.
-              binary_covers s bi.Or (binary_means s bi.And (value ρ g n) (value ρ g m)) (some (reduced s v)) (value ρ h c) (some (reduced s v)) (f.means y) (λ z q. q) x
+              binary_covers s bi.Or (binary_means s bi.And (value ρ g n) (value ρ g m)) (Some (reduced s v)) (value ρ h c) (Some (reduced s v)) (f.means y) (λ z q. q) x
               (k.4 y x e),
         ),
   )
@@ -255,8 +255,8 @@ module _ (ρ : World) (t : ScalarType) (w : Option ℕ) where
               f.here,
               ap (λ (s : ScalarType). stored_typed m.op s m.type m.result) f.type ∙ k.6,
               λ sure x e.
-                  binary_covers m.result m.op (binary_means m.type bi.And (value ρ g m.base) (some (reduced m.type m.mask)))
-                  (some (reduced m.type m.literal)) (value ρ j n) (some (reduced m.type m.literal))
+                  binary_covers m.result m.op (binary_means m.type bi.And (value ρ g m.base) (Some (reduced m.type m.mask)))
+                  (Some (reduced m.type m.literal)) (value ρ j n) (Some (reduced m.type m.literal))
                   (λ y q. f.means sure y ((λ z. binary_means m.type bi.And (ext_value ρ a.grows m.base k.2 z) (means sure z)) ∙ q)) (λ y q. q) x (k.7 sure x e),
             ),
       ))

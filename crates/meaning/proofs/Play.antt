@@ -4,7 +4,7 @@ use mathlib.Core.Path.{◌≡◌, refl, sym, ap, ◌∙◌, subst}
 use mathlib.Core.Bool.{Bool, true, false, cond, false≢true, ◌&&◌}
 use mathlib.Core.List.{List, [], ◌∷◌, ◌++◌}
 use mathlib.Core.Logic.{◌⊎◌, inl, inr, ⊎_elim}
-use mathlib.Core.Option.{Option, none, some}
+use Rattle.std.specs.Prelude.{Option, None, Some}
 use Prim.Native.Nat.{ℕ, suc, ◌+◌, ◌^◌, ◌≤◌, ◌<◌}
 use native.Mathlib.Nat.{mod-lt, le_refl}
 use native.Mathlib.Omega.{arith}
@@ -114,16 +114,16 @@ module _ (ρ : Env) where
   lines_more g [] l r q = (q, tt)
   lines_more g (k ∷ ls) l r q = (r.0, lines_more g ls l r.1 q)
 
-  else_is : (a b : Option ℕ) (v : ℕ) → or_else a b ≡ some v → {P : Type 0} → (a ≡ some v → P) → (b ≡ some v → P) → P
-  else_is none b v e f h = h e
-  else_is (some x) b v e f h = f e
+  else_is : (a b : Option ℕ) (v : ℕ) → or_else a b ≡ Some v → {P : Type 0} → (a ≡ Some v → P) → (b ≡ Some v → P) → P
+  else_is None b v e f h = h e
+  else_is (Some x) b v e f h = f e
 
-  first_is : (g : List ℕ) (ls : List Line) → AllRight ρ g ls → (n v : ℕ) → first ls n ≡ some v → value ρ g n ≡ some v
+  first_is : (g : List ℕ) (ls : List Line) → AllRight ρ g ls → (n v : ℕ) → first ls n ≡ Some v → value ρ g n ≡ Some v
   first_is g [] r n v e = absurd (none-some e)
   first_is g (l ∷ ls) r n v e = go (eqb l.id n) refl e (λ q. first_is g ls r.1 n v q)
     where
-      go : (b : Bool) → eqb l.id n ≡ b → cond b (or_else l.val (first ls n)) (first ls n) ≡ some v → (first ls n ≡ some v → value ρ g n ≡ some v)
-          → value ρ g n ≡ some v
+      go : (b : Bool) → eqb l.id n ≡ b → cond b (or_else l.val (first ls n)) (first ls n) ≡ Some v → (first ls n ≡ Some v → value ρ g n ≡ Some v)
+          → value ρ g n ≡ Some v
       go true q e ih = else_is l.val (first ls n) v e (λ z. ap (value ρ g) (sym (eqb-true l.id n q)) ∙ r.0.means v z) ih
       go false q e ih = ih e
 
@@ -182,8 +182,8 @@ inserted-put g t r o = by (interned g o (words_of t r o))
     new false e = rw (appended_full g (words_of t r o) e) tt
 
     by : (x : Option ℕ) → IsPut (found_or g x (appended g (words_of t r o))).answer
-    by none = new (ltb (count_of g) LIMIT) refl
-    by (some n) = tt
+    by None = new (ltb (count_of g) LIMIT) refl
+    by (Some n) = tt
 
 -- ---- one call
 
@@ -258,13 +258,13 @@ module _ (ρ : Env) (s : State) (i : Inv (At ρ s.book.conditions) s.graph) (r :
       leaf_fine t (constant_interval t c) (node.constant c) (valued t v) [] (constant_storable here s.graph t c wide small)
       (λ x q. ap (of_type t) (reduced_same t c small) ∙ q)
 
-  given_valid : (t : ScalarType) (r : Option Interval) → is_range_of t r ≡ true → (a : Interval) → or_else r (type_interval t) ≡ some a → Valid t a
-  given_valid t none d a e = type_valid t a e
-  given_valid t (some b) d a e =
+  given_valid : (t : ScalarType) (r : Option Interval) → is_range_of t r ≡ true → (a : Interval) → or_else r (type_interval t) ≡ Some a → Valid t a
+  given_valid t None d a e = type_valid t a e
+  given_valid t (Some b) d a e =
       let c = tests (le_z b.low b.high) _ d in
       subst (Valid t) (some_is e) (record { full = at_most_lem b.low b.high c.0; inside = c.1 })
 
-  input_storable : (n : ℕ) (t : ScalarType) (p : Option Interval) → ((a : Interval) → p ≡ some a → Ends a) → type_width t ≤ 128 → is_range_of t p ≡ true
+  input_storable : (n : ℕ) (t : ScalarType) (p : Option Interval) → ((a : Interval) → p ≡ Some a → Ends a) → type_width t ≤ 128 → is_range_of t p ≡ true
       → Storable (At ρ (input_is n t p ∷ s.book.conditions)) s.graph t (or_else p (type_interval t)) (node.input n)
   input_storable n t p bounded wide d =
       let ends = each_else Ends p bounded (type-ends t) in
@@ -315,7 +315,7 @@ module _ (ρ : Env) (s : State) (i : Inv (At ρ s.book.conditions) s.graph) (r :
 
   -- what a guard leaves: the lines as they were, in a graph that goes on
   guarded_fine : (cs : List Condition) (o : Outcome) (h : List ℕ) → Kept (At ρ (cs ++ s.book.conditions)) s.graph h
-      → After none cs (finished s.graph (guard_out no.Room s.graph o h))
+      → After None cs (finished s.graph (guard_out no.Room s.graph o h))
   guarded_fine cs refine.unchanged h k = (k.inv, λ m. lines_ext ρ k.grows s.book.lines (r (met_rest ρ cs s.book.conditions m)))
   guarded_fine cs refine.narrowed h k = (k.inv, λ m. lines_ext ρ k.grows s.book.lines (r (met_rest ρ cs s.book.conditions m)))
   guarded_fine cs refine.full h k = (i, r)

@@ -2,7 +2,7 @@
 use mathlib.Core.Path.{◌≡◌, refl, sym, ap, ◌∙◌, subst}
 use mathlib.Core.Bool.{Bool, true, false, cond, ◌&&◌}
 use mathlib.Core.List.{List, [], ◌∷◌, ◌++◌, append-nil}
-use mathlib.Core.Option.{Option, none, some}
+use Rattle.std.specs.Prelude.{Option, None, Some}
 use Prim.Native.Nat.{ℕ, zero, suc, ◌^◌, ◌≤◌, ◌<◌}
 use native.Mathlib.Nat.{le_of_eq, min-eq_left, min-le_right}
 use native.Mathlib.Omega.{arith}
@@ -49,12 +49,12 @@ use Rattle.meaning.proofs.Mapping.{marked-retain}
 
 module _ {A : Type 0} (P : A → Type 0) where
   abbrev All : Option A → Type 0
-  All o = (a : A) → o ≡ some a → P a
+  All o = (a : A) → o ≡ Some a → P a
 
-  all_none : All none
+  all_none : All None
   all_none a e = absurd (none-some e)
 
-  all_some : (x : A) → P x → All (some x)
+  all_some : (x : A) → P x → All (Some x)
   all_some x p a e = subst P (some_is e) p
 
   all_when : (b : Bool) (o : Option A) → (b ≡ true → All o) → All (provided b o)
@@ -63,12 +63,12 @@ module _ {A : Type 0} (P : A → Type 0) where
   all_cond : (b : Bool) (x y : Option A) → All x → All y → All (cond b x y)
   all_cond b x y h k = by_test All b (λ e. h) (λ e. k)
 
-  all_given : {B : Type 0} (o : Option B) (f : B → Option A) → ((x : B) → All (f x)) → All (given o f none)
+  all_given : {B : Type 0} (o : Option B) (f : B → Option A) → ((x : B) → All (f x)) → All (given o f None)
   all_given o f h = by_given All o (λ x e. h x) (λ e. all_none)
 
 all_mapped : {A B : Type 0} (P : B → Type 0) (f : A → B) (o : Option A) → All (λ (a : A). P (f a)) o → All P (mapped f o)
-all_mapped P f none h = all_none P
-all_mapped P f (some a) h = all_some P (f a) (h a refl)
+all_mapped P f None h = all_none P
+all_mapped P f (Some a) h = all_some P (f a) (h a refl)
 
 -- ---- the values that a record names are 128-bit patterns
 
@@ -83,7 +83,7 @@ word_below : (bs : List ℕ) → Bytes bs → length bs ≡ 16 → little bs < 2
 word_below bs b e = little_below 16 bs b (le_of_eq e)
 
 -- any request but a constant and an input
-plain : (q : Request) → Pattern q → All Pattern (some q)
+plain : (q : Request) → Pattern q → All Pattern (Some q)
 plain q p = all_some Pattern q p
 
 -- a type, and what the rest says with it
@@ -111,7 +111,7 @@ input_all bs b =
     (all_cond Pattern (eqb (get_or rest 0 0) 1) _ _ (ranged n t (drop 1 rest) (bytes_drop 1 rest (bytes_drop 2 (drop 8 bs) (bytes_drop 8 bs b)))) (all_none Pattern)))))
   where
     no_range : (n : ℕ) (t : ScalarType) (bs : List ℕ) → All Pattern (input_plain n t bs)
-    no_range n t bs = all_when Pattern (eqb (length bs) 0) _ (λ e. plain (asks.input n t none) (λ a q. absurd (none-some q)))
+    no_range n t bs = all_when Pattern (eqb (length bs) 0) _ (λ e. plain (asks.input n t None) (λ a q. absurd (none-some q)))
 
     ranged : (n : ℕ) (t : ScalarType) (bs : List ℕ) → Bytes bs → All Pattern (input_minimum n t bs)
     ranged n t bs b =
@@ -237,7 +237,7 @@ module _ (g w m : List ℕ) (both : is_marked g w ≡ true) (fits : LIMIT ≤ le
     pub on : e.is_last ≡ false
     pub mapping : length e.mapping ≡ length m
 
-  does : (a : Asked) → AskedPattern a → Does (call_of a) (done_by (request_call g) (retain_call g) g m (some a))
+  does : (a : Asked) → AskedPattern a → Does (call_of a) (done_by (request_call g) (retain_call g) g m (Some a))
   unfolding done_by
   does (records.request q) p =
       let e = sym (patterned_same q p) in
@@ -272,11 +272,11 @@ module _ (ρ : Env) (w : List ℕ) (unmarked : Unmarked w) (m : List ℕ) (fits 
       by true e o q =
           let h : s.is_over ≡ true = p.over ∙ e in
           rw h (record { graph = rw e p.graph; text = rw e (rw e at p.text); over = rw e }, pl.1)
-      by false e none q =
+      by false e None q =
           let h : s.is_over ≡ false = p.over ∙ e in
           let t : s.text ≡ lines_of ρ w (calls_of rs) = (rw e at p.text) ∙ append-nil (lines_of ρ w (calls_of rs)) in
           rw (h, q) (record { graph = rw (e, q) p.graph; text = rw (e, q) (ap (λ (x : List ℕ). x ++ BAD) t); over = rw (e, q) }, pl.1)
-      by false e (some a) q =
+      by false e (Some a) q =
           let h : s.is_over ≡ false = p.over ∙ e in
           let t : s.text ≡ lines_of ρ w (calls_of rs) = (rw e at p.text) ∙ append-nil (lines_of ρ w (calls_of rs)) in
           let v = (play ρ w (calls_of rs)).marks in
@@ -286,7 +286,7 @@ module _ (ρ : Env) (w : List ℕ) (unmarked : Unmarked w) (m : List ℕ) (fits 
             record {
               graph = rw (e, q) (d.graph ∙ ap (λ (x : List ℕ). leaves x v (call_of a)) p.graph ∙ sym (play_leaves ρ w (call_of a) (calls_of rs)));
               text = rw (e, q)
-                  (ap (λ (x : List ℕ). x ++ (done_by (request_call s.graph) (retain_call s.graph) s.graph s.mapping (some a)).text) t
+                  (ap (λ (x : List ℕ). x ++ (done_by (request_call s.graph) (retain_call s.graph) s.graph s.mapping (Some a)).text) t
                   ∙ ap (λ (x : List ℕ). lines_of ρ w (calls_of rs) ++ x) (d.text ∙ ap (λ (x : List ℕ). line_of x v (call_of a)) p.graph)
                   ∙ sym (append-nil (lines_of ρ w (calls_of rs) ++ line_of (play ρ w (calls_of rs)).now.graph v (call_of a))));
               over = rw (e, q) d.on;
@@ -316,9 +316,9 @@ unfolding effect_in_graph effect_call done_by
 effect-asked g m bs e = by (asked bs)
   where
     by : (o : Option Asked) → done_by (request_in_graph g) (retain_in_graph g) g m o ≡ done_by (request_call g) (retain_call g) g m o
-    by none = refl
-    by (some (records.request q)) = rw (request-asked g q e)
-    by (some (records.retain keep)) = rw (retain-asked g keep (take (lent_words g m) m) e)
+    by None = refl
+    by (Some (records.request q)) = rw (request-asked g q e)
+    by (Some (records.retain keep)) = rw (retain-asked g keep (take (lent_words g m) m) e)
 
 -- a grown graph passes question 1
 pub grown-is_graph : {g : List ℕ} → Grown g → is_graph g ≡ true
@@ -330,8 +330,8 @@ unfolding effect_in_graph done_by
 grown-effect g m bs b w = by (asked bs) refl
   where
     by : (o : Option Asked) → asked bs ≡ o → Grown (done_by (request_in_graph g) (retain_in_graph g) g m o).graph
-    by none e = w
-    by (some (records.request q)) e = record {
+    by None e = w
+    by (Some (records.request q)) e = record {
       env = w.env;
       marks = w.marks;
       none = w.none;
@@ -341,7 +341,7 @@ grown-effect g m bs b w = by (asked bs) refl
           ∙ ap (λ (p : Request). (request_call g p).words) (patterned_same q (asked_all bs b (records.request q) e))
           ∙ ap (λ (c : Called). c.words) (request-asked g q (grown-is_graph w));
     }
-    by (some (records.retain keep)) e = record {
+    by (Some (records.retain keep)) e = record {
       env = w.env;
       marks = w.marks;
       none = w.none;

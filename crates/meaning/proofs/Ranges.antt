@@ -3,7 +3,7 @@ use mathlib.Core.Path.{◌≡◌, refl, sym, ap, ◌∙◌, subst}
 use mathlib.Core.Bool.{Bool, true, false, cond, false≢true, ◌&&◌}
 use mathlib.Core.List.{List, [], ◌∷◌}
 use mathlib.Core.Logic.{⊎_elim}
-use mathlib.Core.Option.{Option, none, some}
+use Rattle.std.specs.Prelude.{Option, None, Some}
 use Prim.Native.Nat.{ℕ, ◌-◌, ◌*◌, ◌/◌, ◌%◌, ◌^◌, ◌≤◌, ◌<◌}
 use native.Mathlib.Nat.{lt_of_lt_of_le, lt_of_le_of_lt, mod-lt, mod-le, div-le_self, le_refl, le_trans}
 use native.Mathlib.Omega.{arith}
@@ -62,13 +62,13 @@ low_in : (w n : ℕ) (a : Interval) → n < 2 ^ w → (signed w n) ∈ a → pos
 low_in w n a l f h = low_half w n l (not_below (signed w n) (omega orders))
 
 -- a rule that needs ranges that are not negative
-not_negative_lem : (p q : Interval) (o : Option Interval) (a : Interval) → provided (nonnegative p && nonnegative q) o ≡ some a
+not_negative_lem : (p q : Interval) (o : Option Interval) (a : Interval) → provided (nonnegative p && nonnegative q) o ≡ Some a
     → (pos 0 ≤ℤ p.low) × (pos 0 ≤ℤ q.low)
 not_negative_lem p q o a e =
     let d = tests (nonnegative p) (nonnegative q) (provided_is _ o e).0 in (at_most_lem (pos 0) p.low d.0, at_most_lem (pos 0) q.low d.1)
 
 -- the same, and a divisor above 0
-positive : (p q : Interval) (o : Option Interval) (a : Interval) → provided (nonnegative p && lt_z (pos 0) q.low) o ≡ some a
+positive : (p q : Interval) (o : Option Interval) (a : Interval) → provided (nonnegative p && lt_z (pos 0) q.low) o ≡ Some a
     → (pos 0 ≤ℤ p.low) × (pos 0 ≤ℤ q.low)
 positive p q o a e =
     let d = tests (nonnegative p) (lt_z (pos 0) q.low) (provided_is _ o e).0 in
@@ -81,7 +81,7 @@ type-within ty.Bool v l a e = type_in_bool v a l e
 type-within (ty.Bits w) v l a e = type_in_bits w v a l e
 type-within ty.Integer v l a e = absurd (none-some e)
 
-pub type-ends : (t : ScalarType) (a : Interval) → type_interval t ≡ some a → Ends a
+pub type-ends : (t : ScalarType) (a : Interval) → type_interval t ≡ Some a → Ends a
 unfolding bits_interval
 type-ends ty.Bool a e = subst Ends (some_is e) (record { low = pow_pos 127; high = pow-lt {i = 0} {j = 127} (omega arith) })
 type-ends (ty.Bits w) a e =
@@ -118,10 +118,10 @@ bits_rules = bi.Add ∷ bi.Sub ∷ bi.Mul ∷ bi.And ∷ bi.ShiftLeft ∷ bi.Shi
 abbrev Low : ℕ → ℕ → Interval → Type 0
 Low w v a = (z : ℤ) × (z ∈ a) × (v ≡ residue w z)
 
-held : (w v : ℕ) (m : Option Interval) → v < 2 ^ w → ((a : Interval) → m ≡ some a → Low w v a)
+held : (w v : ℕ) (m : Option Interval) → v < 2 ^ w → ((a : Interval) → m ≡ Some a → Low w v a)
     → Within (ty.Bits w) v (or_else (held_to w m) (type_interval (ty.Bits w)))
-held w v none l f = type-within (ty.Bits w) v l
-held w v (some a) l f =
+held w v None l f = type-within (ty.Bits w) v l
+held w v (Some a) l f =
     each_else (λ (r : Interval). (pos v) ∈ r) (filtered w a)
     (λ b q.
     let (z, i, d) = f a refl in
@@ -149,7 +149,7 @@ module _ (w : ℕ) (narrow : w ≤ 128) (s t : ScalarType) (x y v : ℕ) (p q a 
       k i.0 j.0 i.1 j.1
 
   abbrev BitsLow : Binary → Type 0
-  BitsLow o = stored_typed o s t (ty.Bits w) ≡ true → binary_value o (ty.Bits w) x y ≡ some v → bits_rule o p q ≡ some a → Low w v a
+  BitsLow o = stored_typed o s t (ty.Bits w) ≡ true → binary_value o (ty.Bits w) x y ≡ Some v → bits_rule o p q ≡ Some a → Low w v a
 
   bits_low : (o : Binary) → BitsLow o
   unfolding binary_value bits_rule residue shl_interval shr_interval
@@ -173,30 +173,30 @@ module _ (w : ℕ) (narrow : w ≤ 128) (s t : ScalarType) (x y v : ℕ) (p q a 
 abbrev pub integer_rules : List Binary
 integer_rules = bi.Add ∷ bi.Sub ∷ bi.Mul ∷ bi.And ∷ bi.DivideSigned ∷ bi.RemainderSigned ∷ bi.DivideUnsigned ∷ bi.RemainderUnsigned ∷ []
 
-pub fitted_is : (z u : ℤ) → fitted z ≡ some u → (z ≡ u) × (mag u < 2 ^ 127)
+pub fitted_is : (z u : ℤ) → fitted z ≡ Some u → (z ≡ u) × (mag u < 2 ^ 127)
 fitted_is z u e =
-    let p = provided_is (fits z) (some z) e in
+    let p = provided_is (fits z) (Some z) e in
     let s : z ≡ u = some_is p.1 in
     (s, subst (λ (i : ℤ). mag i < 2 ^ 127) s ((fits_below z).0 p.0))
 
-pub quotient_is : (x y u : ℤ) → quotient x y ≡ some u → (quot_z x y ≡ u) × (mag u < 2 ^ 127)
+pub quotient_is : (x y u : ℤ) → quotient x y ≡ Some u → (quot_z x y ≡ u) × (mag u < 2 ^ 127)
 unfolding quotient
 quotient_is x y u e = fitted_is (quot_z x y) u (provided_is (ltb 0 (nat_abs y)) _ e).1
 
-remainder_is : (x y u : ℤ) → mag x < 2 ^ 127 → remainder x y ≡ some u → (rem_z x y ≡ u) × (mag u < 2 ^ 127)
+remainder_is : (x y u : ℤ) → mag x < 2 ^ 127 → remainder x y ≡ Some u → (rem_z x y ≡ u) × (mag u < 2 ^ 127)
 unfolding remainder
 remainder_is x y u l e =
     let p = provided_is (ltb 0 (nat_abs y)) _ e in
-    let s : rem_z x y ≡ u = some_is (provided_is (fits (quot_z x y)) (some (rem_z x y)) p.1).1 in
+    let s : rem_z x y ≡ u = some_is (provided_is (fits (quot_z x y)) (Some (rem_z x y)) p.1).1 in
     (s, subst (λ (i : ℤ). mag i < 2 ^ 127) s (lt_of_le_of_lt (mag_rem x y) l))
 
-plain : (o : Option ℕ) (v : ℕ) → mapped (reduced ty.Integer) o ≡ some v → o ≡ some v
-plain none v e = e
-plain (some n) v e = e
+plain : (o : Option ℕ) (v : ℕ) → mapped (reduced ty.Integer) o ≡ Some v → o ≡ Some v
+plain None v e = e
+plain (Some n) v e = e
 
 -- a checked signed result, by what its answer is
-checked_in : (m : Option ℤ) (z : ℤ) (a : Interval) (v : ℕ) → ((u : ℤ) → m ≡ some u → (z ≡ u) × (mag u < 2 ^ 127)) → z ∈ a
-    → mapped (residue 128) m ≡ some v → (signed 128 v) ∈ a
+checked_in : (m : Option ℤ) (z : ℤ) (a : Interval) (v : ℕ) → ((u : ℤ) → m ≡ Some u → (z ≡ u) × (mag u < 2 ^ 127)) → z ∈ a
+    → mapped (residue 128) m ≡ Some v → (signed 128 v) ∈ a
 checked_in m z a v is i e =
     let (u, d, c) = mapped_is (residue 128) m e in
     let (s, l) = is u d in
@@ -217,9 +217,9 @@ module _ (s t : ScalarType) (x y v : ℕ) (p q a : Interval) (l : x < size s) (m
 
   -- a rule of integers, and its operator's checked result
   checked : same_type s ty.Integer && same_type t ty.Integer ≡ true → (h : ℤ → ℤ → Option ℤ) (k : ℤ → ℤ → ℤ)
-      → ((u : ℤ) → mag (signed 128 x) < 2 ^ 127 → h (signed 128 x) (signed 128 y) ≡ some u → (k (signed 128 x) (signed 128 y) ≡ u) × (mag u < 2 ^ 127))
+      → ((u : ℤ) → mag (signed 128 x) < 2 ^ 127 → h (signed 128 x) (signed 128 y) ≡ Some u → (k (signed 128 x) (signed 128 y) ≡ u) × (mag u < 2 ^ 127))
       → ((signed 128 x) ∈ p → (signed 128 y) ∈ q → (k (signed 128 x) (signed 128 y)) ∈ a)
-      → mapped (reduced ty.Integer) (mapped (residue 128) (h (signed 128 x) (signed 128 y))) ≡ some v → (signed 128 v) ∈ a
+      → mapped (reduced ty.Integer) (mapped (residue 128) (h (signed 128 x) (signed 128 y))) ≡ Some v → (signed 128 v) ∈ a
   checked d h k is i e =
       let (l, m, f, g) = integers d in
       checked_in _ _ a v (λ u. is u (signed_mag 128 x (omega arith) l)) (i f g) (plain _ v e)
@@ -232,7 +232,7 @@ module _ (s t : ScalarType) (x y v : ℕ) (p q a : Interval) (l : x < size s) (m
       rw (← e, signed_low 128 n (lt_of_le_of_lt k (low_in 128 x p l f h.0))) (i (read_low ty.Integer x p l f h.0) (read_low ty.Integer y q m g h.1))
 
   abbrev IntegerIn : Binary → Type 0
-  IntegerIn o = stored_typed o s t ty.Integer ≡ true → binary_value o ty.Integer x y ≡ some v → integer_rule o p q ≡ some a → (signed 128 v) ∈ a
+  IntegerIn o = stored_typed o s t ty.Integer ≡ true → binary_value o ty.Integer x y ≡ Some v → integer_rule o p q ≡ Some a → (signed 128 v) ∈ a
 
   integer_in : (o : Binary) → IntegerIn o
   unfolding binary_value integer_rule and_interval udiv_interval urem_interval
@@ -253,8 +253,8 @@ module _ (s t : ScalarType) (x y v : ℕ) (p q a : Interval) (l : x < size s) (m
 -- ---- the range of a new node
 
 binary-within : (o : Binary) (t ta tb : ScalarType) (ra rb r : Option Interval) (x y v : ℕ) → stored_typed o ta tb t ≡ true → type_width t ≤ 128
-    → x < size ta → y < size tb → Within ta x ra → Within tb y rb → ((a : Interval) → ra ≡ some a → Ends a) → binary_value o t x y ≡ some v
-    → v < size t → binary_range t o ra rb ≡ some r → Within t v r
+    → x < size ta → y < size tb → Within ta x ra → Within tb y rb → ((a : Interval) → ra ≡ Some a → Ends a) → binary_value o t x y ≡ Some v
+    → v < size t → binary_range t o ra rb ≡ Some r → Within t v r
 unfolding binary_range
 binary-within o ty.Bool ta tb ra rb r x y v d h l m f g ends e k c = rw (← some_is c) (type-within ty.Bool v k)
 binary-within o (ty.Bits w) ta tb ra rb r x y v d h l m f g ends e k c =
@@ -262,12 +262,12 @@ binary-within o (ty.Bits w) ta tb ra rb r x y v d h l m f g ends e k c =
     let (p, q, i, j, u) = both_given_lem (bits_rule o) ra rb b in
     bits_low w h ta tb x y v p q a l m (f p i) (g q j) (ends p i) o d e u))
 binary-within o ty.Integer ta tb ra rb r x y v d h l m f g ends e k c =
-    let (a, b, z) = mapped_is some (both_given ra rb (integer_rule o)) c in
+    let (a, b, z) = mapped_is Some (both_given ra rb (integer_rule o)) c in
     let (p, q, i, j, u) = both_given_lem (integer_rule o) ra rb b in
     rw (← z) (λ n s. rw (← some_is s) (integer_in ta tb x y v p q a l m (f p i) (g q j) o d e u))
 
 -- the sign copied from w bits
-extended_in : (w x v : ℕ) (a : Interval) → v ≡ cond (eqb w 0) 0 (residue 128 (extended w x)) → sign_extended w ≡ some a → (signed 128 v) ∈ a
+extended_in : (w x v : ℕ) (a : Interval) → v ≡ cond (eqb w 0) 0 (residue 128 (extended w x)) → sign_extended w ≡ Some a → (signed 128 v) ∈ a
 unfolding sign_extended
 extended_in w x v a e r =
     let c = tests (ltb 0 w) (ltb w 128) (provided_is _ _ r).0 in
@@ -279,15 +279,15 @@ extended_in w x v a e r =
     let b : v ≡ residue 128 z = e ∙ rw (ne_eqb w 0 (omega arith)) (ap (residue 128) (extended-signed x w p (omega arith))) in
     rw (b, signed-residue 128 z (omega arith) (lt_of_lt_of_le m (pow_mono k))) (sign_extended_in w a z m r)
 
-negated_within : (x v : ℕ) (ra r : Option Interval) → Within ty.Integer x ra → mapped (residue 128) (fitted (neg_ℤ (signed 128 x))) ≡ some v
-    → negated_range ra ≡ some r → Within ty.Integer v r
-negated_within x v none r f e c = absurd (none-some c)
-negated_within x v (some p) r f e c =
-    let (a, b, z) = mapped_is some (neg_interval p) c in
+negated_within : (x v : ℕ) (ra r : Option Interval) → Within ty.Integer x ra → mapped (residue 128) (fitted (neg_ℤ (signed 128 x))) ≡ Some v
+    → negated_range ra ≡ Some r → Within ty.Integer v r
+negated_within x v None r f e c = absurd (none-some c)
+negated_within x v (Some p) r f e c =
+    let (a, b, z) = mapped_is Some (neg_interval p) c in
     rw (← z) (λ n s. rw (← some_is s) (checked_in _ _ a v (fitted_is (neg_ℤ (signed 128 x))) (neg_in p a (signed 128 x) (f p refl) b) e))
 
 unary-within : (o : Unary) (t s : ScalarType) (ra r : Option Interval) (x u v : ℕ) → unary_typed o s t ≡ true
-    → Within s x ra → unary_value o x ≡ some u → v ≡ reduced t u → v < size t → unary_range t o ra ≡ some r → Within t v r
+    → Within s x ra → unary_value o x ≡ Some u → v ≡ reduced t u → v < size t → unary_range t o ra ≡ Some r → Within t v r
 unfolding unary_range unary_value
 unary-within un.BoolNot t s ra r x u v d f e q k c = rw (← some_is c) (type-within t v k)
 unary-within un.BitNot t s ra r x u v d f e q k c = rw (← some_is c) (type-within t v k)
@@ -308,15 +308,15 @@ unary-within (un.TrailingZeros w) t s ra r x u v d f e q k c = rw (← some_is c
 
 -- an operand's value is of its type and lies in its range, whose ends are integers of 128 bits
 pub record Held (a : Ranged) (v : Option ℕ) : Type 0 where
-  pub small : (x : ℕ) → v ≡ some x → x < size a.type
-  pub within : (x : ℕ) → v ≡ some x → Within a.type x a.range
-  pub ends : (i : Interval) → a.range ≡ some i → Ends i
+  pub small : (x : ℕ) → v ≡ Some x → x < size a.type
+  pub within : (x : ℕ) → v ≡ Some x → Within a.type x a.range
+  pub ends : (i : Interval) → a.range ≡ Some i → Ends i
 
 -- an operation of type t on operands that are held; a Refine's source lies in its range as a value of t too
 abbrev pub HeldIn : (ℕ → Ranged) → (ℕ → Operand) → ScalarType → Op → Type 0
 HeldIn known look t (node.constant c) = c < size t
 HeldIn known look t (node.input i) = Unit {0}
-HeldIn known look t (node.refine i) = (x : ℕ) → (look i).val ≡ some x → Within t x (known i).range
+HeldIn known look t (node.refine i) = (x : ℕ) → (look i).val ≡ Some x → Within t x (known i).range
 HeldIn known look t (node.effect i) = Unit {0}
 HeldIn known look t (node.slice i o w) = Unit {0}
 HeldIn known look t (node.concat i j w) = Unit {0}
@@ -325,10 +325,10 @@ HeldIn known look t (node.binary b i j) = (stored_typed b (known i).type (known 
 
 module _ (ρ : Env) (t : ScalarType) (wide : type_width t ≤ 128) (known : ℕ → Ranged) (look : ℕ → Operand) (r : Option Interval) (v : ℕ) where
   -- where the range is the type's
-  typed-within : (o : Op) → operation_means ρ t o look ≡ some v → some (type_interval t) ≡ some r → Within t v r
+  typed-within : (o : Op) → operation_means ρ t o look ≡ Some v → Some (type_interval t) ≡ Some r → Within t v r
   typed-within o e q = rw (← some_is q) (type-within t v (means_small ρ t o look v e))
 
-  pub stored_within : (o : Op) → HeldIn known look t o → operation_means ρ t o look ≡ some v → stored_range t o known ≡ some r → Within t v r
+  pub stored_within : (o : Op) → HeldIn known look t o → operation_means ρ t o look ≡ Some v → stored_range t o known ≡ Some r → Within t v r
   stored_within (node.constant c) h e q =
       let p : c ≡ v = some_is (sym (valued_same t c h) ∙ e) in
       rw (← some_is q) (subst (λ (n : ℕ). Within t n (constant_interval t c)) p (constant-within t c wide h))
@@ -350,7 +350,7 @@ module _ (ρ : Env) (t : ScalarType) (wide : type_width t ≤ 128) (known : ℕ 
       let (z, zs, m) = then_is (binary_value b t x y) (of_type t) v k in
       let (s, l) = typed_is t z v m in
       binary-within b t (known i).type (known j).type (known i).range (known j).range r x y v h.0 wide (h.1.small x xs) (h.2.small y ys)
-      (h.1.within x xs) (h.2.within y ys) h.1.ends (zs ∙ ap some (sym s)) l q
+      (h.1.within x xs) (h.2.within y ys) h.1.ends (zs ∙ ap Some (sym s)) l q
 
 -- a node of a graph is held
 pub held_at : {ρ : World} {g : List ℕ} → Inv ρ g → (n : ℕ) → n < count_of g → ρ.IsSure → Held (ranged_at g n) (value ρ g n)

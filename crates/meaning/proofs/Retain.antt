@@ -3,7 +3,7 @@ use mathlib.Core.Path.{◌≡◌, refl, sym, ap, ◌∙◌, subst}
 use mathlib.Core.Bool.{true}
 use mathlib.Core.List.{List}
 use mathlib.Core.Logic.{◌⊎◌, inl, ⊎_elim}
-use mathlib.Core.Option.{some}
+use Rattle.std.specs.Prelude.{Some}
 use Prim.Native.Nat.{ℕ, zero, suc, ◌-◌, ◌≤◌, ◌<◌}
 use native.Mathlib.Decide.{dec_lt}
 use native.Mathlib.Omega.{arith}
@@ -319,10 +319,10 @@ module _ (ρ : World) {g keep mapping : List ℕ} (i : Inv ρ g) (d : KeepList g
         (moved (λ j. value ρ (retained g keep) (new_id keep j) ≡ value ρ g j) n l e
         (λ j b k. ap (value ρ (retained g keep)) (id_kept keep j k) ∙ retain-value j b k)) (i.refined n l sure)));
     ends =
-        each (λ j. (a : Interval) → range_at (retained g keep) j ≡ some a → Ends a)
+        each (λ j. (a : Interval) → range_at (retained g keep) j ≡ Some a → Ends a)
         (λ n l e a q. i.ends n l a (sym (at n l e).range ∙ q));
     ranged =
-        each (λ j. ρ.IsSure → (v : ℕ) → value ρ (retained g keep) j ≡ some v → Within (type_at (retained g keep) j) v (range_at (retained g keep) j))
+        each (λ j. ρ.IsSure → (v : ℕ) → value ρ (retained g keep) j ≡ Some v → Within (type_at (retained g keep) j) v (range_at (retained g keep) j))
         (λ n l e sure v q. rw ((at n l e).type, (at n l e).range) (i.ranged n l sure v (sym (retain-value n l e) ∙ q)));
     alias =
         each (λ j. (alias_at (retained g keep) j ≡ 0) ⊎ Leads ρ (retained g keep) j (alias_at (retained g keep) j - 1))

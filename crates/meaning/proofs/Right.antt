@@ -3,7 +3,7 @@ use mathlib.Core.Path.{◌≡◌, refl, sym, ap, ◌∙◌, subst}
 use mathlib.Core.Bool.{Bool, true, false, cond, false≢true, ◌&&◌}
 use mathlib.Core.List.{List}
 use mathlib.Core.Logic.{◌⊎◌, inl, inr, ⊎_elim}
-use mathlib.Core.Option.{Option, none, some}
+use Rattle.std.specs.Prelude.{Option, None, Some}
 use Prim.Native.Nat.{ℕ, ◌-◌, ◌^◌, ◌≤◌, ◌<◌}
 use native.Mathlib.Nat.{mod-lt, lt_of_lt_of_le}
 use native.Mathlib.Omega.{arith}
@@ -61,7 +61,7 @@ comparison_types =
     compared_types compared_types compared_types compared_types compared_types compared_types
 
 -- what ranges decide is a comparison
-compares : (o : Binary) (c d : Interval) (truth : Bool) → comparison o c d ≡ some truth → is_any comparisons o ≡ true
+compares : (o : Binary) (c d : Interval) (truth : Bool) → comparison o c d ≡ Some truth → is_any comparisons o ≡ true
 unfolding comparison
 compares o c d truth e = answering comparisons (λ o. comparison o c d) refl o e
 
@@ -87,7 +87,7 @@ shiftable_size a ty.Integer e x h = same_size (same_type_lem a ty.Integer e) x h
 abbrev Keeps : Binary → Type 0
 Keeps o =
     ((a b t : ScalarType) → stored_typed o a b t ≡ true → (x : ℕ) → x < size a → x < size t)
-    × ((t : ScalarType) → type_width t ≤ 128 → (x : ℕ) → x < size t → x < 2 ^ 128 → binary_value o t x 0 ≡ some x)
+    × ((t : ScalarType) → type_width t ≤ 128 → (x : ℕ) → x < size t → x < 2 ^ 128 → binary_value o t x 0 ≡ Some x)
 
 keeps : (o : Binary) → is_any zero_keeps o ≡ true → Keeps o
 keeps =
@@ -102,7 +102,7 @@ keeps =
 
 -- 0 on the right makes it 0
 abbrev MakesZero : Binary → Type 0
-MakesZero o = (t : ScalarType) (x : ℕ) → binary_value o t x 0 ≡ some 0
+MakesZero o = (t : ScalarType) (x : ℕ) → binary_value o t x 0 ≡ Some 0
 
 makes_zero : (o : Binary) → is_any zero_makes_zero o ≡ true → MakesZero o
 makes_zero = of_any MakesZero zero_makes_zero and_zero mul-zero
@@ -113,25 +113,25 @@ makes_zero = of_any MakesZero zero_makes_zero and_zero mul-zero
 abbrev Merges : Binary → Type 0
 Merges o =
     ((a b t : ScalarType) → stored_typed o a b t ≡ same_types a b t)
-    × ((t : ScalarType) (x c d v k : ℕ) → binary_value o t x c ≡ some v → binary_value o t c d ≡ some k → binary_value o t v d ≡ binary_value o t x k)
+    × ((t : ScalarType) (x c d v k : ℕ) → binary_value o t x c ≡ Some v → binary_value o t c d ≡ Some k → binary_value o t v d ≡ binary_value o t x k)
 
 merges : (o : Binary) → is_any bitwise o ≡ true → Merges o
 merges = of_any Merges bitwise (λ a b t. refl, and_merged) (λ a b t. refl, or_merged) (λ a b t. refl, xor_merged)
 
 -- one value twice: kept, 0, true or false
-keeps_twice : (o : Binary) → is_any kept_twice o ≡ true → (t : ScalarType) (x : ℕ) → x < size t → binary_value o t x x ≡ some x
-keeps_twice = of_any (λ o. (t : ScalarType) (x : ℕ) → x < size t → binary_value o t x x ≡ some x) kept_twice and_twice or_twice
+keeps_twice : (o : Binary) → is_any kept_twice o ≡ true → (t : ScalarType) (x : ℕ) → x < size t → binary_value o t x x ≡ Some x
+keeps_twice = of_any (λ o. (t : ScalarType) (x : ℕ) → x < size t → binary_value o t x x ≡ Some x) kept_twice and_twice or_twice
 
 merges_twice : (o : Binary) → is_any kept_twice o ≡ true → Merges o
 merges_twice = of_any Merges kept_twice (merges bi.And refl) (merges bi.Or refl)
 
-makes_zero_twice : (o : Binary) → is_any zero_twice o ≡ true → (t : ScalarType) (x : ℕ) → x < 2 ^ 128 → binary_value o t x x ≡ some 0
+makes_zero_twice : (o : Binary) → is_any zero_twice o ≡ true → (t : ScalarType) (x : ℕ) → x < 2 ^ 128 → binary_value o t x x ≡ Some 0
 makes_zero_twice =
-    of_any (λ o. (t : ScalarType) (x : ℕ) → x < 2 ^ 128 → binary_value o t x x ≡ some 0) zero_twice sub_twice (λ t x m. xor_twice t x)
+    of_any (λ o. (t : ScalarType) (x : ℕ) → x < 2 ^ 128 → binary_value o t x x ≡ Some 0) zero_twice sub_twice (λ t x m. xor_twice t x)
 
 -- a comparison with this truth of one value twice
 abbrev Truth : ℕ → Binary → Type 0
-Truth c o = (is_any comparisons o ≡ true) × ((x : ℕ) → binary_value o ty.Bool x x ≡ some c)
+Truth c o = (is_any comparisons o ≡ true) × ((x : ℕ) → binary_value o ty.Bool x x ≡ Some c)
 
 true_twice_lem : (o : Binary) → is_any true_twice o ≡ true → Truth 1 o
 true_twice_lem = of_any (Truth 1) true_twice (refl, equal_twice) (refl, at_most-signed_twice) (refl, at_most_unsigned_twice)
@@ -140,13 +140,13 @@ false_twice_lem : (o : Binary) → is_any false_twice o ≡ true → Truth 0 o
 false_twice_lem = of_any (Truth 0) false_twice (refl, not_equal_twice) (refl, less_signed_twice) (refl, less_unsigned_twice)
 
 -- a result of type Bits(w) is below 2 ^ w
-evaluated_small : (w : ℕ) (o : Binary) (x y v : ℕ) → binary_value o (ty.Bits w) x y ≡ some v → v < 2 ^ w
+evaluated_small : (w : ℕ) (o : Binary) (x y v : ℕ) → binary_value o (ty.Bits w) x y ≡ Some v → v < 2 ^ w
 unfolding binary_value
 evaluated_small w o x y v e =
     let s = mapped_is (reduced (ty.Bits w)) (unreduced o (ty.Bits w) x y) e in
     subst (λ (n : ℕ). n < 2 ^ w) s.2 (mod-lt s.0 (pow_pos w))
 
-and_is : (t : ScalarType) (x y : ℕ) → binary_value bi.And t x y ≡ some (reduced t (bit_and x y))
+and_is : (t : ScalarType) (x y : ℕ) → binary_value bi.And t x y ≡ Some (reduced t (bit_and x y))
 unfolding binary_value
 and_is t x y = refl
 
@@ -155,9 +155,9 @@ bits_typed w = rw (eq-eqb w w refl)
 
 -- ---- what the operator gives
 
-truth_is : (b : Option Bool) (p : Plan) → truth_plan b ≡ some p → (truth : Bool) × (b ≡ some truth) × (plan.constant ty.Bool (from_bool truth) ≡ p)
-truth_is none p e = absurd (none-some e)
-truth_is (some truth) p e = (truth, refl, some_is e)
+truth_is : (b : Option Bool) (p : Plan) → truth_plan b ≡ Some p → (truth : Bool) × (b ≡ Some truth) × (plan.constant ty.Bool (from_bool truth) ≡ p)
+truth_is None p e = absurd (none-some e)
+truth_is (Some truth) p e = (truth, refl, some_is e)
 
 module _ {ρ : World} {g : List ℕ} (i : Inv ρ g) (t : ScalarType) (o : Binary) (l r : ℕ) (k : Callable g (binary t o l r)) where
   -- what is asked for
@@ -166,10 +166,10 @@ module _ {ρ : World} {g : List ℕ} (i : Inv ρ g) (t : ScalarType) (o : Binary
 
   -- the operator gives this of the operands' values
   abbrev Gives : (ℕ → ℕ → ℕ) → Type 0
-  Gives f = ρ.IsSure → (x y : ℕ) → value ρ g l ≡ some x → value ρ g r ≡ some y → binary_value o t x y ≡ some (f x y)
+  Gives f = ρ.IsSure → (x y : ℕ) → value ρ g l ≡ Some x → value ρ g r ≡ Some y → binary_value o t x y ≡ Some (f x y)
 
-  module _ (sure : ρ.IsSure) (f : ℕ → ℕ → ℕ) (gives : Gives f) (v : ℕ) (e : binary_means t o (value ρ g l) (value ρ g r) ≡ some v) where
-    given_is : (x : ℕ) × (y : ℕ) × (value ρ g l ≡ some x) × (value ρ g r ≡ some y) × (v ≡ f x y) × (v < size t)
+  module _ (sure : ρ.IsSure) (f : ℕ → ℕ → ℕ) (gives : Gives f) (v : ℕ) (e : binary_means t o (value ρ g l) (value ρ g r) ≡ Some v) where
+    given_is : (x : ℕ) × (y : ℕ) × (value ρ g l ≡ Some x) × (value ρ g r ≡ Some y) × (v ≡ f x y) × (v < size t)
     given_is =
         let s = operands ρ g t o l r v e in
         let q = typed_is t (f s.x s.y) v (sym (ap (λ (a : Option ℕ). and_then a (of_type t)) (gives sure s.x s.y s.left s.right)) ∙ s.means) in
@@ -179,7 +179,7 @@ module _ {ρ : World} {g : List ℕ} (i : Inv ρ g) (t : ScalarType) (o : Binary
   constant_claim c h gives = (
     refl,
     record { width = k.0; small = rw (reduced_same t c h) h },
-    λ sure v e. let s = given_is sure (λ x y. c) gives v e in ap some (reduced_same t c h ∙ sym s.4),
+    λ sure v e. let s = given_is sure (λ x y. c) gives v e in ap Some (reduced_same t c h ∙ sym s.4),
   )
 
   keep_claim : Gives (λ x y. x) → Asked (plan.identity t l)
@@ -192,14 +192,14 @@ module _ {ρ : World} {g : List ℕ} (i : Inv ρ g) (t : ScalarType) (o : Binary
   )
 
   give_left : type_at g l ≡ t → Gives (λ x y. x) → Asked (plan.give l)
-  give_left s gives = record { here = k.1; type = s; means = λ sure v e. let s = given_is sure (λ x y. x) gives v e in s.2 ∙ ap some (sym s.4) }
+  give_left s gives = record { here = k.1; type = s; means = λ sure v e. let s = given_is sure (λ x y. x) gives v e in s.2 ∙ ap Some (sym s.4) }
 
   give_right : type_at g r ≡ t → Gives (λ x y. y) → Asked (plan.give r)
-  give_right s gives = record { here = k.2; type = s; means = λ sure v e. let s = given_is sure (λ x y. y) gives v e in s.3 ∙ ap some (sym s.4) }
+  give_right s gives = record { here = k.2; type = s; means = λ sure v e. let s = given_is sure (λ x y. y) gives v e in s.3 ∙ ap Some (sym s.4) }
 
   -- true or false
   truth_claim : (c : ℕ) → c < 2 → t ≡ ty.Bool
-      → (ρ.IsSure → (x y : ℕ) → value ρ g l ≡ some x → value ρ g r ≡ some y → binary_value o ty.Bool x y ≡ some c) → Asked (plan.constant ty.Bool c)
+      → (ρ.IsSure → (x y : ℕ) → value ρ g l ≡ Some x → value ρ g r ≡ Some y → binary_value o ty.Bool x y ≡ Some c) → Asked (plan.constant ty.Bool c)
   truth_claim c h b gives =
       subst Asked (ap (λ (s : ScalarType). plan.constant s c) b)
       (constant_claim c (same_size (sym b) c h) (λ sure x y ex ey. ap (λ (s : ScalarType). binary_value o s x y) b ∙ gives sure x y ex ey))
@@ -210,7 +210,7 @@ module _ {ρ : World} {g : List ℕ} (i : Inv ρ g) (t : ScalarType) (o : Binary
 
   -- ---- ranges
 
-  pub compared_claim : (p : Plan) → compared_plan o (range_at g l) (range_at g r) ≡ some p
+  pub compared_claim : (p : Plan) → compared_plan o (range_at g l) (range_at g r) ≡ Some p
       → Claim ρ g t (binary_means t o (value ρ g l) (value ρ g r)) p
   compared_claim p e =
       let d = truth_is (both_given (range_at g l) (range_at g r) (comparison o)) p e in
@@ -227,16 +227,16 @@ module _ {ρ : World} {g : List ℕ} (i : Inv ρ g) (t : ScalarType) (o : Binary
 
   module _ (same : l ≡ r) where
     -- what the operator gives of one value twice
-    twice_gives : (s : ScalarType) (f : ℕ → ℕ) → ((x : ℕ) → value ρ g l ≡ some x → binary_value o s x x ≡ some (f x))
-        → ρ.IsSure → (x y : ℕ) → value ρ g l ≡ some x → value ρ g r ≡ some y → binary_value o s x y ≡ some (f x)
+    twice_gives : (s : ScalarType) (f : ℕ → ℕ) → ((x : ℕ) → value ρ g l ≡ Some x → binary_value o s x x ≡ Some (f x))
+        → ρ.IsSure → (x y : ℕ) → value ρ g l ≡ Some x → value ρ g r ≡ Some y → binary_value o s x y ≡ Some (f x)
     twice_gives s f h sure x y ex ey =
         let q : y ≡ x = some_is (sym ey ∙ ap (value ρ g) (sym same) ∙ ex) in
         ap (binary_value o s x) q ∙ h x ex
 
-    zero_twice_lem : ((x : ℕ) → x < 2 ^ 128 → binary_value o t x x ≡ some 0) → Asked (plan.constant t 0)
+    zero_twice_lem : ((x : ℕ) → x < 2 ^ 128 → binary_value o t x x ≡ Some 0) → Asked (plan.constant t 0)
     zero_twice_lem h = constant_claim 0 (size-pos t) (twice_gives t (λ x. 0) (λ x ex. h x (value_pattern i l k.1 x ex)))
 
-    keep_twice : Merges o → ((x : ℕ) → x < size t → binary_value o t x x ≡ some x) → Asked (plan.identity t l)
+    keep_twice : Merges o → ((x : ℕ) → x < size t → binary_value o t x x ≡ Some x) → Asked (plan.identity t l)
     keep_twice m h = keep_claim (twice_gives t (λ x. x) (λ x ex. h x (same_size (bit_types m).0 x (value_small i l k.1 x ex))))
 
     truth_twice : (c : ℕ) → c < 2 → Truth c o → Asked (plan.constant ty.Bool c)
@@ -246,24 +246,24 @@ module _ {ρ : World} {g : List ℕ} (i : Inv ρ g) (t : ScalarType) (o : Binary
   -- ---- a constant on the right
 
   -- And or Or with all ones
-  ones_facts : {A : Type 0} (u v p : A) → cond (same_binary o bi.And) (some u) (only (same_binary o bi.Or) v) ≡ some p
+  ones_facts : {A : Type 0} (u v p : A) → cond (same_binary o bi.And) (Some u) (only (same_binary o bi.Or) v) ≡ Some p
       → ((o ≡ bi.And) × (u ≡ p)) ⊎ ((o ≡ bi.Or) × (v ≡ p))
   ones_facts {A} u v p = go (same_binary o bi.And) refl (same_binary o bi.Or) refl
     where
-      go : (a : Bool) → same_binary o bi.And ≡ a → (b : Bool) → same_binary o bi.Or ≡ b → cond a (some u) (only b v) ≡ some p
+      go : (a : Bool) → same_binary o bi.And ≡ a → (b : Bool) → same_binary o bi.Or ≡ b → cond a (Some u) (only b v) ≡ Some p
           → ((o ≡ bi.And) × (u ≡ p)) ⊎ ((o ≡ bi.Or) × (v ≡ p))
       go true q b d e = inl (binary_is o bi.And q, some_is e)
       go false q true d e = inr (binary_is o bi.Or d, some_is e)
       go false q false d e = absurd (none-some e)
 
-  module _ (c : ℕ) (lit : literal g r ≡ some c) where
+  module _ (c : ℕ) (lit : literal g r ≡ Some c) where
     -- what the operator gives of a value and the constant
-    right_gives : (f : ℕ → ℕ) → ((x : ℕ) → value ρ g l ≡ some x → binary_value o t x c ≡ some (f x)) → Gives (λ x y. f x)
+    right_gives : (f : ℕ → ℕ) → ((x : ℕ) → value ρ g l ≡ Some x → binary_value o t x c ≡ Some (f x)) → Gives (λ x y. f x)
     right_gives f h sure x y ex ey =
         let q : y ≡ c = some_is (sym ey ∙ literal-value ρ g i r c k.2 lit) in
         ap (binary_value o t x) q ∙ h x ex
 
-    zero_claim : c ≡ 0 → (p : Plan) → zero_plan t o l ≡ some p → Asked p
+    zero_claim : c ≡ 0 → (p : Plan) → zero_plan t o l ≡ Some p → Asked p
     zero_claim z =
         by_test (Each Asked) (is_any zero_keeps o)
         (λ q.
@@ -278,11 +278,11 @@ module _ {ρ : World} {g : List ℕ} (i : Inv ρ g) (t : ScalarType) (o : Binary
         (λ d.
         each_some Asked _ (constant_claim 0 (size-pos t) (by (λ x. 0) (λ x ex. makes_zero o d t x)))))
       where
-        by : (f : ℕ → ℕ) → ((x : ℕ) → value ρ g l ≡ some x → binary_value o t x 0 ≡ some (f x)) → Gives (λ x y. f x)
+        by : (f : ℕ → ℕ) → ((x : ℕ) → value ρ g l ≡ Some x → binary_value o t x 0 ≡ Some (f x)) → Gives (λ x y. f x)
         by f h = right_gives f (λ x ex. ap (binary_value o t x) z ∙ h x ex)
 
 pub twice_claim : {ρ : World} {g : List ℕ} (i : Inv ρ g) (t : ScalarType) (o : Binary) (l r : ℕ) (k : Callable g (binary t o l r)) → l ≡ r → (p : Plan)
-    → with_itself t o l ≡ some p → Claim ρ g t (binary_means t o (value ρ g l) (value ρ g r)) p
+    → with_itself t o l ≡ Some p → Claim ρ g t (binary_means t o (value ρ g l) (value ρ g r)) p
 twice_claim i t o l r k q =
     let P = Asked i t o l r k in
     by_test (Each P) (is_any kept_twice o) (λ a. each_some P _ (keep_twice i t o l r k q (merges_twice o a) (keeps_twice o a t)))
@@ -293,10 +293,10 @@ twice_claim i t o l r k q =
 -- ---- all ones on the right
 
 module _ {ρ : World} {g : List ℕ} (i : Inv ρ g) where
-  ones_claim : (t : ScalarType) (o : Binary) (l r : ℕ) (k : Callable g (binary t o l r)) (c : ℕ) → literal g r ≡ some c → (p : Plan)
-      → ones_plan t o l r c ≡ some p → Claim ρ g t (binary_means t o (value ρ g l) (value ρ g r)) p
+  ones_claim : (t : ScalarType) (o : Binary) (l r : ℕ) (k : Callable g (binary t o l r)) (c : ℕ) → literal g r ≡ Some c → (p : Plan)
+      → ones_plan t o l r c ≡ Some p → Claim ρ g t (binary_means t o (value ρ g l) (value ρ g r)) p
   ones_claim ty.Bool o l r k c lit p e =
-      let d = provided_is (eqb c 1) (cond (same_binary o bi.And) (some (plan.give l)) (only (same_binary o bi.Or) (plan.give r))) e in
+      let d = provided_is (eqb c 1) (cond (same_binary o bi.And) (Some (plan.give l)) (only (same_binary o bi.Or) (plan.give r))) e in
       ⊎_elim
       (λ (h : (o ≡ bi.And) × (plan.give l ≡ p)).
       let s = (bit_types i ty.Bool o l r k (subst Merges (sym h.0) (merges bi.And refl))).0 in
@@ -310,11 +310,11 @@ module _ {ρ : World} {g : List ℕ} (i : Inv ρ g) where
       (give_right i ty.Bool o l r k s.1
       (λ sure x y ex ey.
       let q : y ≡ 1 = some_is (sym ey ∙ literal-value ρ g i r c k.2 lit) ∙ eqb-true c 1 d.0 in
-      (λ j. binary_value (h.0 j) ty.Bool x (q j)) ∙ or-true x (same_size s.0 x (value_small i l k.1 x ex)) ∙ ap some (sym q))))
+      (λ j. binary_value (h.0 j) ty.Bool x (q j)) ∙ or-true x (same_size s.0 x (value_small i l k.1 x ex)) ∙ ap Some (sym q))))
       (ones_facts i ty.Bool o l r k (plan.give l) (plan.give r) p d.1)
   ones_claim (ty.Bits w) o l r k c lit p e =
       let t = ty.Bits w in
-      let d = provided_is (eqb c (mask w)) (cond (same_binary o bi.And) (some (plan.identity t l)) (only (same_binary o bi.Or) (plan.constant t (mask w)))) e in
+      let d = provided_is (eqb c (mask w)) (cond (same_binary o bi.And) (Some (plan.identity t l)) (only (same_binary o bi.Or) (plan.constant t (mask w)))) e in
       let m : mask w ≡ 2 ^ w - 1 = mask_is w k.0 in
       let n : c ≡ 2 ^ w - 1 = eqb-true c (mask w) d.0 ∙ m in
       ⊎_elim
@@ -329,24 +329,24 @@ module _ {ρ : World} {g : List ℕ} (i : Inv ρ g) where
       subst (Asked i t o l r k) h.1
       (constant_claim i t o l r k (mask w) (subst (λ (v : ℕ). v < 2 ^ w) (sym m) (ones_lt w))
       (right_gives i t o l r k c lit (λ x. mask w)
-      (λ x ex. (λ j. binary_value (h.0 j) t x (n j)) ∙ or_ones w x (same_size s x (value_small i l k.1 x ex)) ∙ ap some (sym m)))))
+      (λ x ex. (λ j. binary_value (h.0 j) t x (n j)) ∙ or_ones w x (same_size s x (value_small i l k.1 x ex)) ∙ ap Some (sym m)))))
       (ones_facts i t o l r k (plan.identity t l) (plan.constant t (mask w)) p d.1)
   ones_claim ty.Integer o l r k c lit p e = absurd (none-some e)
 
 pub right_claim : {ρ : World} {g : List ℕ} (i : Inv ρ g) (t : ScalarType) (o : Binary) (l r : ℕ) (k : Callable g (binary t o l r)) (c : ℕ)
-    → literal g r ≡ some c → (p : Plan) → right_plan t o l r c ≡ some p → Claim ρ g t (binary_means t o (value ρ g l) (value ρ g r)) p
+    → literal g r ≡ Some c → (p : Plan) → right_plan t o l r c ≡ Some p → Claim ρ g t (binary_means t o (value ρ g l) (value ρ g r)) p
 right_claim i t o l r k c lit =
     each_or (Asked i t o l r k) (provided (eqb c 0) (zero_plan t o l))
     (each_provided (Asked i t o l r k) (eqb c 0) (λ q. zero_claim i t o l r k c lit (eqb-true c 0 q))) (ones_claim i t o l r k c lit)
 
 -- ---- an operation by a constant of an operation by a constant
 
-module _ {ρ : World} {g : List ℕ} (i : Inv ρ g) (w : ℕ) (o : Binary) (l r : ℕ) (k : Callable g (binary (ty.Bits w) o l r)) (b : ℕ) (lit : literal g r ≡ some b)
+module _ {ρ : World} {g : List ℕ} (i : Inv ρ g) (w : ℕ) (o : Binary) (l r : ℕ) (k : Callable g (binary (ty.Bits w) o l r)) (b : ℕ) (lit : literal g r ≡ Some b)
     (c : ByConstant) (f : Linked g l c) where
   -- its value, if there is one, by the base's
-  pair-means : type_at g l ≡ ty.Bits w → (v : ℕ) → binary_means (ty.Bits w) o (value ρ g l) (value ρ g r) ≡ some v
-      → (y : ℕ) × (x : ℕ) × (value ρ g c.base ≡ some x) × (binary_value c.op (ty.Bits w) x c.value ≡ some y)
-      × (and_then (binary_value o (ty.Bits w) y b) (of_type (ty.Bits w)) ≡ some v)
+  pair-means : type_at g l ≡ ty.Bits w → (v : ℕ) → binary_means (ty.Bits w) o (value ρ g l) (value ρ g r) ≡ Some v
+      → (y : ℕ) × (x : ℕ) × (value ρ g c.base ≡ Some x) × (binary_value c.op (ty.Bits w) x c.value ≡ Some y)
+      × (and_then (binary_value o (ty.Bits w) y b) (of_type (ty.Bits w)) ≡ Some v)
   pair-means s v e =
       let d = operands ρ g (ty.Bits w) o l r v e in
       let q : d.y ≡ b = some_is (sym d.right ∙ literal-value ρ g i r b k.2 lit) in
@@ -370,8 +370,8 @@ module _ {ρ : World} {g : List ℕ} (i : Inv ρ g) (w : ℕ) (o : Binary) (l r 
   merged_claim q m = go (binary_value o (ty.Bits w) c.value b) refl
     where
       go : (a : Option ℕ) → binary_value o (ty.Bits w) c.value b ≡ a → Asked i (ty.Bits w) o l r k (merged_plan (ty.Bits w) o c.base a)
-      go none e = tt
-      go (some u) e =
+      go None e = tt
+      go (Some u) e =
           let s = pair_types m (subst Merges (sym q) m) in
           let h : u < 2 ^ w = evaluated_small w o c.value b u e in
           let h' : reduced (ty.Bits w) u ≡ u = reduced_same (ty.Bits w) u h in (
@@ -384,7 +384,7 @@ module _ {ρ : World} {g : List ℕ} (i : Inv ρ g) (w : ℕ) (o : Binary) (l r 
                 let z = pair-means s.0 v d in
                 let n : binary_value o (ty.Bits w) z.0 b ≡ binary_value o (ty.Bits w) z.1 u =
                 m.1 (ty.Bits w) z.1 c.value b z.0 u (ap (λ (a : Binary). binary_value a (ty.Bits w) z.1 c.value) (sym q) ∙ z.3) e in
-                (λ j. binary_means (ty.Bits w) o (z.2 j) (some (h' j))) ∙ ap (λ (a : Option ℕ). and_then a (of_type (ty.Bits w))) (sym n) ∙ z.4,
+                (λ j. binary_means (ty.Bits w) o (z.2 j) (Some (h' j))) ∙ ap (λ (a : Option ℕ). and_then a (of_type (ty.Bits w))) (sym n) ∙ z.4,
           )
 
   and-or_claim : c.op ≡ bi.Or → o ≡ bi.And → Asked i (ty.Bits w) o l r k (plan.and_or (ty.Bits w) c.base r (bit_and c.value b))
@@ -406,15 +406,15 @@ module _ {ρ : World} {g : List ℕ} (i : Inv ρ g) (w : ℕ) (o : Binary) (l r 
             let h : binary_value bi.And (ty.Bits w) z.0 b ≡ binary_value bi.Or (ty.Bits w) u n =
             and_of_or_merged (ty.Bits w) z.1 c.value b z.0 u (ap (λ (a : Binary). binary_value a (ty.Bits w) z.1 c.value) (sym q) ∙ z.3)
             (and_is (ty.Bits w) z.1 b) n (and_is (ty.Bits w) c.value b) in
-            let first : binary_means (ty.Bits w) bi.And (value ρ g c.base) (value ρ g r) ≡ some u =
+            let first : binary_means (ty.Bits w) bi.And (value ρ g c.base) (value ρ g r) ≡ Some u =
             (λ j. binary_means (ty.Bits w) bi.And (z.2 j) (literal-value ρ g i r b k.2 lit j))
             ∙ ap (λ (a : Option ℕ). and_then a (of_type (ty.Bits w))) (and_is (ty.Bits w) z.1 b)
             ∙ low_valued w (bit_and z.1 b) in
-            ap (λ (a : Option ℕ). binary_means (ty.Bits w) bi.Or a (some n)) first
+            ap (λ (a : Option ℕ). binary_means (ty.Bits w) bi.Or a (Some n)) first
             ∙ ap (λ (a : Option ℕ). and_then a (of_type (ty.Bits w))) (sym h ∙ ap (λ (a : Binary). binary_value a (ty.Bits w) z.0 b) (sym d)) ∙ z.4,
       )
 
-  mask_twice : (p : Plan) → mask_of_mask (ty.Bits w) o r b c ≡ some p → Asked i (ty.Bits w) o l r k p
+  mask_twice : (p : Plan) → mask_of_mask (ty.Bits w) o r b c ≡ Some p → Asked i (ty.Bits w) o l r k p
   mask_twice =
       by_test (Each (Asked i (ty.Bits w) o l r k)) (same_binary c.op o && is_any bitwise o)
       (λ q.
@@ -427,7 +427,7 @@ module _ {ρ : World} {g : List ℕ} (i : Inv ρ g) (w : ℕ) (o : Binary) (l r 
       each_some (Asked i (ty.Bits w) o l r k) _ (and-or_claim (binary_is c.op bi.Or h.0) (binary_is o bi.And h.1))))
 
 pub mask_claim : {ρ : World} {g : List ℕ} (i : Inv ρ g) (t : ScalarType) (o : Binary) (l r : ℕ) (k : Callable g (binary t o l r)) (c : ℕ)
-    → literal g r ≡ some c → (p : Plan) → mask_plan g t o l r c ≡ some p → Claim ρ g t (binary_means t o (value ρ g l) (value ρ g r)) p
+    → literal g r ≡ Some c → (p : Plan) → mask_plan g t o l r c ≡ Some p → Claim ρ g t (binary_means t o (value ρ g l) (value ρ g r)) p
 mask_claim i ty.Bool o l r k c lit = each_none _
 mask_claim {ρ} {g} i (ty.Bits w) o l r k c lit =
     each_given (Asked i (ty.Bits w) o l r k) (by_constant_at g l) (λ d q. mask_twice i w o l r k c lit d (linked g l d q))

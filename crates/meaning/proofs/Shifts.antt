@@ -3,7 +3,7 @@ use mathlib.Core.Path.{◌≡◌, refl, sym, ap, ◌∙◌, subst}
 use mathlib.Core.Bool.{Bool, true, cond, ◌&&◌, ◌||◌}
 use mathlib.Core.List.{List}
 use mathlib.Core.Logic.{⊎_elim}
-use mathlib.Core.Option.{Option, none, some}
+use Rattle.std.specs.Prelude.{Option, None, Some}
 use Prim.Native.Nat.{ℕ, zero, suc, ◌+◌, ◌-◌, ◌*◌, ◌/◌, ◌%◌, ◌^◌, ◌≤◌, ◌<◌}
 use native.Mathlib.Decide.{dec_lt}
 use native.Mathlib.Nat.{mod-mod, mod-lt, mod-eq_of_lt, mul_assoc, lt_of_lt_of_le}
@@ -64,30 +64,30 @@ module _ {ρ : World} {g : List ℕ} (i : Inv ρ g) where
 -- ---- what shifts give; from 128 bits on, as from w on, nothing is left
 
 module _ (w : ℕ) where
-  left_value : w ≤ 128 → (x c : ℕ) → binary_value bi.ShiftLeft (ty.Bits w) x c ≡ some (x * 2 ^ c % 2 ^ w)
+  left_value : w ≤ 128 → (x c : ℕ) → binary_value bi.ShiftLeft (ty.Bits w) x c ≡ Some (x * 2 ^ c % 2 ^ w)
   unfolding binary_value
-  left_value wide x c = ap (λ (n : ℕ). some (n % 2 ^ w)) (shift_left x c) ∙ ap some (narrow (x * 2 ^ c) 128 w wide)
+  left_value wide x c = ap (λ (n : ℕ). Some (n % 2 ^ w)) (shift_left x c) ∙ ap Some (narrow (x * 2 ^ c) 128 w wide)
 
-  right_value : (x c : ℕ) → x < 2 ^ 128 → binary_value bi.ShiftRight (ty.Bits w) x c ≡ some (x / 2 ^ c % 2 ^ w)
+  right_value : (x c : ℕ) → x < 2 ^ 128 → binary_value bi.ShiftRight (ty.Bits w) x c ≡ Some (x / 2 ^ c % 2 ^ w)
   unfolding binary_value
-  right_value x c l = ap (λ (n : ℕ). some (n % 2 ^ w)) (shift_right x c l)
+  right_value x c l = ap (λ (n : ℕ). Some (n % 2 ^ w)) (shift_right x c l)
 
-  low_means : (o : Binary) (x c r : ℕ) → binary_value o (ty.Bits w) x c ≡ some (r % 2 ^ w)
-      → binary_means (ty.Bits w) o (some x) (some c) ≡ some (r % 2 ^ w)
+  low_means : (o : Binary) (x c r : ℕ) → binary_value o (ty.Bits w) x c ≡ Some (r % 2 ^ w)
+      → binary_means (ty.Bits w) o (Some x) (Some c) ≡ Some (r % 2 ^ w)
   low_means o x c r e = ap (λ (a : Option ℕ). and_then a (of_type (ty.Bits w))) e ∙ low_valued w r
 
-  left_means : w ≤ 128 → (x c : ℕ) → binary_means (ty.Bits w) bi.ShiftLeft (some x) (some c) ≡ some (x * 2 ^ c % 2 ^ w)
+  left_means : w ≤ 128 → (x c : ℕ) → binary_means (ty.Bits w) bi.ShiftLeft (Some x) (Some c) ≡ Some (x * 2 ^ c % 2 ^ w)
   left_means wide x c = low_means bi.ShiftLeft x c (x * 2 ^ c) (left_value wide x c)
 
-  right_means : (x c : ℕ) → x < 2 ^ 128 → binary_means (ty.Bits w) bi.ShiftRight (some x) (some c) ≡ some (x / 2 ^ c % 2 ^ w)
+  right_means : (x c : ℕ) → x < 2 ^ 128 → binary_means (ty.Bits w) bi.ShiftRight (Some x) (Some c) ≡ Some (x / 2 ^ c % 2 ^ w)
   right_means x c l = low_means bi.ShiftRight x c (x / 2 ^ c) (right_value x c l)
 
   -- an operation by c that has a value
   by_count : (o : Binary) (f : ℕ → ℕ) (a b : Option ℕ) (c v : ℕ)
-      → ((x : ℕ) → a ≡ some x → binary_means (ty.Bits w) o (some x) (some c) ≡ some (f x)) → b ≡ some c → binary_means (ty.Bits w) o a b ≡ some v
-      → (x : ℕ) × (a ≡ some x) × (v ≡ f x)
-  by_count o f none b c v h e q = absurd (none-some q)
-  by_count o f (some x) b c v h e q = (x, refl, some_is (sym q ∙ ap (binary_means (ty.Bits w) o (some x)) e ∙ h x refl))
+      → ((x : ℕ) → a ≡ Some x → binary_means (ty.Bits w) o (Some x) (Some c) ≡ Some (f x)) → b ≡ Some c → binary_means (ty.Bits w) o a b ≡ Some v
+      → (x : ℕ) × (a ≡ Some x) × (v ≡ f x)
+  by_count o f None b c v h e q = absurd (none-some q)
+  by_count o f (Some x) b c v h e q = (x, refl, some_is (sym q ∙ ap (binary_means (ty.Bits w) o (Some x)) e ∙ h x refl))
 
 -- left after left
 shift_more : (x a b w : ℕ) → x * 2 ^ a % 2 ^ w * 2 ^ b % 2 ^ w ≡ x * 2 ^ (a + b) % 2 ^ w
@@ -120,10 +120,10 @@ out_wide o w c b wide e =
 record Shifted (ρ : World) (g : List ℕ) (w n : ℕ) (c : ByConstant) : Type 0 where
   here : c.base < count_of g
   typed : shiftable (type_at g c.base) (ty.Bits w) ≡ true
-  means : ρ.IsSure → (v : ℕ) → value ρ g n ≡ some v → (x : ℕ) × (value ρ g c.base ≡ some x) × (v ≡ x * 2 ^ c.value % 2 ^ w)
+  means : ρ.IsSure → (v : ℕ) → value ρ g n ≡ Some v → (x : ℕ) × (value ρ g c.base ≡ Some x) × (v ≡ x * 2 ^ c.value % 2 ^ w)
 
 module _ {ρ : World} {g : List ℕ} (i : Inv ρ g) (w : ℕ) (wide : w ≤ 128) where
-  by_constant-shifted : (n : ℕ) → n < count_of g → type_at g n ≡ ty.Bits w → (c : ByConstant) → by_constant_at g n ≡ some c → c.op ≡ bi.ShiftLeft → Shifted ρ g w n c
+  by_constant-shifted : (n : ℕ) → n < count_of g → type_at g n ≡ ty.Bits w → (c : ByConstant) → by_constant_at g n ≡ Some c → c.op ≡ bi.ShiftLeft → Shifted ρ g w n c
   by_constant-shifted n l t c e s =
       let f = linked g n c e in
       let k : stored_typed bi.ShiftLeft (type_at g c.base) (type_at g f.constant) (ty.Bits w) ≡ true =
@@ -136,7 +136,7 @@ module _ {ρ : World} {g : List ℕ} (i : Inv ρ g) (w : ℕ) (wide : w ≤ 128)
             (d.0, d.1, some_is (sym d.2 ∙ (λ z. binary_value (s z) (t z) d.0 c.value) ∙ left_value w wide d.0 c.value));
       }
 
-  module _ (left right count : ℕ) (ll : left < count_of g) (known : value ρ g right ≡ some count) where
+  module _ (left right count : ℕ) (ll : left < count_of g) (known : value ρ g right ≡ Some count) where
     abbrev Asked : Binary → Plan → Type 0
     Asked o = Claim ρ g (ty.Bits w) (binary_means (ty.Bits w) o (value ρ g left) (value ρ g right))
 
@@ -144,20 +144,20 @@ module _ {ρ : World} {g : List ℕ} (i : Inv ρ g) (w : ℕ) (wide : w ≤ 128)
     abbrev again : Binary → ByConstant → Plan
     again o c = cond (same_binary o bi.ShiftRight) (back_shift w count c) (plan.constant_binary ty.Integer (c.value + count) (ty.Bits w) o c.base)
 
-    module _ (o : Binary) (f : ℕ → ℕ) (gives : (x : ℕ) → value ρ g left ≡ some x → binary_means (ty.Bits w) o (some x) (some count) ≡ some (f x)) where
-      covers : (d : Option ℕ) → ((x : ℕ) → value ρ g left ≡ some x → d ≡ some (f x))
+    module _ (o : Binary) (f : ℕ → ℕ) (gives : (x : ℕ) → value ρ g left ≡ Some x → binary_means (ty.Bits w) o (Some x) (Some count) ≡ Some (f x)) where
+      covers : (d : Option ℕ) → ((x : ℕ) → value ρ g left ≡ Some x → d ≡ Some (f x))
           → Covers (binary_means (ty.Bits w) o (value ρ g left) (value ρ g right)) d
-      covers d h v e = let p = by_count w o f (value ρ g left) (value ρ g right) count v gives known e in h p.0 p.1 ∙ ap some (sym p.2)
+      covers d h v e = let p = by_count w o f (value ρ g left) (value ρ g right) count v gives known e in h p.0 p.1 ∙ ap Some (sym p.2)
 
-      out_claim : ((x : ℕ) → value ρ g left ≡ some x → f x ≡ 0) → Asked o (plan.constant (ty.Bits w) 0)
+      out_claim : ((x : ℕ) → value ρ g left ≡ Some x → f x ≡ 0) → Asked o (plan.constant (ty.Bits w) 0)
       out_claim h = (
         refl,
         bits_number wide 0,
-        λ sure. covers (some (0 % 2 ^ w)) (λ x e. ap some (mod-eq_of_lt (pow_pos w) ∙ sym (h x e))),
+        λ sure. covers (Some (0 % 2 ^ w)) (λ x e. ap Some (mod-eq_of_lt (pow_pos w) ∙ sym (h x e))),
       )
 
-      by_claim : (w ≤ count → (x : ℕ) → value ρ g left ≡ some x → f x ≡ 0)
-          → ((c : ByConstant) → c.value < w → count < w → Shifted ρ g w left c → Asked o (again o c)) → (p : Plan) → shift_by g o w left count ≡ some p → Asked o p
+      by_claim : (w ≤ count → (x : ℕ) → value ρ g left ≡ Some x → f x ≡ 0)
+          → ((c : ByConstant) → c.value < w → count < w → Shifted ρ g w left c → Asked o (again o c)) → (p : Plan) → shift_by g o w left count ≡ Some p → Asked o p
       by_claim out twice =
           by_test (Each (Asked o)) (is_shifted_out o w count (narrow_type (type_at g left) w || fits w (range_at g left)))
           (λ q. each_some (Asked o) _ (out_claim (out (out_wide o w count _ wide q))))
@@ -165,7 +165,7 @@ module _ {ρ : World} {g : List ℕ} (i : Inv ρ g) (w : ℕ) (wide : w ≤ 128)
           let a = provided_is (same_type (type_at g (origin g left)) (ty.Bits w)) _ e in
           let b = given_is (by_constant_at g (origin g left)) (shift_of_shift o w count) a.1 in
           let c : ByConstant = b.0 in
-          let d = provided_is (ltb c.value w && (ltb count w && same_binary c.op bi.ShiftLeft)) (some (again o c)) b.2 in
+          let d = provided_is (ltb c.value w && (ltb count w && same_binary c.op bi.ShiftLeft)) (Some (again o c)) b.2 in
           let x = tests (ltb c.value w) (ltb count w && same_binary c.op bi.ShiftLeft) d.0 in
           let y = tests (ltb count w) (same_binary c.op bi.ShiftLeft) x.1 in
           let v = origin-value i left ll in
@@ -177,7 +177,7 @@ module _ {ρ : World} {g : List ℕ} (i : Inv ρ g) (w : ℕ) (wide : w ≤ 128)
 
     -- ---- to the left
 
-    left_gives : (x : ℕ) → value ρ g left ≡ some x → binary_means (ty.Bits w) bi.ShiftLeft (some x) (some count) ≡ some (x * 2 ^ count % 2 ^ w)
+    left_gives : (x : ℕ) → value ρ g left ≡ Some x → binary_means (ty.Bits w) bi.ShiftLeft (Some x) (Some count) ≡ Some (x * 2 ^ count % 2 ^ w)
     left_gives x e = left_means w wide x count
 
     left_again : (c : ByConstant) → c.value < w → count < w → Shifted ρ g w left c → Asked bi.ShiftLeft (again bi.ShiftLeft c)
@@ -187,22 +187,22 @@ module _ {ρ : World} {g : List ℕ} (i : Inv ρ g) (w : ℕ) (wide : w ≤ 128)
       wide,
       s.here,
       rw s.typed refl,
-      λ sure. covers bi.ShiftLeft (λ x. x * 2 ^ count % 2 ^ w) left_gives (binary_means (ty.Bits w) bi.ShiftLeft (value ρ g c.base) (some (c.value + count)))
+      λ sure. covers bi.ShiftLeft (λ x. x * 2 ^ count % 2 ^ w) left_gives (binary_means (ty.Bits w) bi.ShiftLeft (value ρ g c.base) (Some (c.value + count)))
           (λ x e.
           let p = s.means sure x e in
-          ap (λ (a : Option ℕ). binary_means (ty.Bits w) bi.ShiftLeft a (some (c.value + count))) p.1 ∙ left_means w wide p.0 (c.value + count)
-          ∙ ap some (sym (ap (λ (n : ℕ). n * 2 ^ count % 2 ^ w) p.2 ∙ shift_more p.0 c.value count w))),
+          ap (λ (a : Option ℕ). binary_means (ty.Bits w) bi.ShiftLeft a (Some (c.value + count))) p.1 ∙ left_means w wide p.0 (c.value + count)
+          ∙ ap Some (sym (ap (λ (n : ℕ). n * 2 ^ count % 2 ^ w) p.2 ∙ shift_more p.0 c.value count w))),
     )
 
-    left_claim : (p : Plan) → shift_by g bi.ShiftLeft w left count ≡ some p → Asked bi.ShiftLeft p
+    left_claim : (p : Plan) → shift_by g bi.ShiftLeft w left count ≡ Some p → Asked bi.ShiftLeft p
     left_claim = by_claim bi.ShiftLeft (λ x. x * 2 ^ count % 2 ^ w) left_gives (λ l x e. sym (left_all w count x l)) left_again
 
     -- ---- to the right
 
-    right_gives : (x : ℕ) → value ρ g left ≡ some x → binary_means (ty.Bits w) bi.ShiftRight (some x) (some count) ≡ some (x / 2 ^ count % 2 ^ w)
+    right_gives : (x : ℕ) → value ρ g left ≡ Some x → binary_means (ty.Bits w) bi.ShiftRight (Some x) (Some count) ≡ Some (x / 2 ^ count % 2 ^ w)
     right_gives x e = right_means w x count (value_pattern i left ll x e)
 
-    right_covers : (d : Option ℕ) → ((x : ℕ) → value ρ g left ≡ some x → d ≡ some (x / 2 ^ count % 2 ^ w))
+    right_covers : (d : Option ℕ) → ((x : ℕ) → value ρ g left ≡ Some x → d ≡ Some (x / 2 ^ count % 2 ^ w))
         → Covers (binary_means (ty.Bits w) bi.ShiftRight (value ρ g left) (value ρ g right)) d
     right_covers = covers bi.ShiftRight (λ x. x / 2 ^ count % 2 ^ w) right_gives
 
@@ -219,7 +219,7 @@ module _ {ρ : World} {g : List ℕ} (i : Inv ρ g) (w : ℕ) (wide : w ≤ 128)
               ap (λ (a : Option ℕ). and_then (slice_means (ty.Bits (w - count)) (count - c.value) a) (valued (ty.Bits w))) p.1
               ∙ ap (λ (a : Option ℕ). and_then a (valued (ty.Bits w))) (low_valued (w - count) (p.0 / 2 ^ (count - c.value)))
               ∙ low_valued w (p.0 / 2 ^ (count - c.value) % 2 ^ (w - count))
-              ∙ ap (λ (n : ℕ). some (n % 2 ^ w))
+              ∙ ap (λ (n : ℕ). Some (n % 2 ^ w))
               (sym (ap (λ (n : ℕ). n / 2 ^ count) p.2 ∙ slices.shift_back p.0 c.value count w (leb-true c.value count q) (omega arith)))),
         ))
         (λ q. (
@@ -228,20 +228,20 @@ module _ {ρ : World} {g : List ℕ} (i : Inv ρ g) (w : ℕ) (wide : w ≤ 128)
           wide,
           count-number (c.value - count) (omega arith),
           le-leb (w - c.value) w (omega arith),
-          λ sure. right_covers (binary_means (ty.Bits w) bi.ShiftLeft (slice_means (ty.Bits (w - c.value)) 0 (value ρ g c.base)) (some (c.value - count)))
+          λ sure. right_covers (binary_means (ty.Bits w) bi.ShiftLeft (slice_means (ty.Bits (w - c.value)) 0 (value ρ g c.base)) (Some (c.value - count)))
               (λ x e.
               let p = s.means sure x e in
               let y : ℕ = p.0 / 2 ^ 0 % 2 ^ (w - c.value) in
-              ap (λ (a : Option ℕ). binary_means (ty.Bits w) bi.ShiftLeft (slice_means (ty.Bits (w - c.value)) 0 a) (some (c.value - count))) p.1
-              ∙ ap (λ (a : Option ℕ). binary_means (ty.Bits w) bi.ShiftLeft a (some (c.value - count))) (low_valued (w - c.value) (p.0 / 2 ^ 0))
+              ap (λ (a : Option ℕ). binary_means (ty.Bits w) bi.ShiftLeft (slice_means (ty.Bits (w - c.value)) 0 a) (Some (c.value - count))) p.1
+              ∙ ap (λ (a : Option ℕ). binary_means (ty.Bits w) bi.ShiftLeft a (Some (c.value - count))) (low_valued (w - c.value) (p.0 / 2 ^ 0))
               ∙ left_means w wide y (c.value - count)
-              ∙ ap some
+              ∙ ap Some
               (sym (ap (λ (n : ℕ). n % 2 ^ w)
               (ap (λ (n : ℕ). n / 2 ^ count) p.2 ∙ slices.shift_left p.0 c.value count w (leb-false c.value count q) (omega arith))
               ∙ mod-mod (y * 2 ^ (c.value - count)) (2 ^ w)))),
         ))
 
-    right_claim : type_at g left ≡ ty.Bits w → (p : Plan) → shift_by g bi.ShiftRight w left count ≡ some p → Asked bi.ShiftRight p
+    right_claim : type_at g left ≡ ty.Bits w → (p : Plan) → shift_by g bi.ShiftRight w left count ≡ Some p → Asked bi.ShiftRight p
     right_claim t =
         by_claim bi.ShiftRight (λ x. x / 2 ^ count % 2 ^ w) right_gives
         (λ l x e.
@@ -250,16 +250,16 @@ module _ {ρ : World} {g : List ℕ} (i : Inv ρ g) (w : ℕ) (wide : w ≤ 128)
 
 module _ {ρ : World} {g : List ℕ} (i : Inv ρ g) (left right : ℕ) (ll : left < count_of g) (lr : right < count_of g) where
   pub shift_claim : (t : ScalarType) → type_width t ≤ 128 → (o : Binary) → stored_typed o (type_at g left) (type_at g right) t ≡ true → (known : Option ℕ)
-      → literal g right ≡ known → (p : Plan) → shift_plan g t o left known ≡ some p → Claim ρ g t (binary_means t o (value ρ g left) (value ρ g right)) p
+      → literal g right ≡ known → (p : Plan) → shift_plan g t o left known ≡ Some p → Claim ρ g t (binary_means t o (value ρ g left) (value ρ g right)) p
   shift_claim ty.Bool wide o typed known e p q = absurd (none-some q)
   shift_claim ty.Integer wide o typed known e p q = absurd (none-some q)
   shift_claim (ty.Bits w) wide o typed known e p q =
       let a = provided_is (is_any shifts o) _ q in
       let b = given_is known (shift_by g o w left) a.1 in
-      let v : value ρ g right ≡ some b.0 = literal-value ρ g i right b.0 lr (e ∙ b.1) in
+      let v : value ρ g right ≡ Some b.0 = literal-value ρ g i right b.0 lr (e ∙ b.1) in
       of_any
       (λ (o : Binary).
-      stored_typed o (type_at g left) (type_at g right) (ty.Bits w) ≡ true → shift_by g o w left b.0 ≡ some p
+      stored_typed o (type_at g left) (type_at g right) (ty.Bits w) ≡ true → shift_by g o w left b.0 ≡ Some p
       → Claim ρ g (ty.Bits w) (binary_means (ty.Bits w) o (value ρ g left) (value ρ g right)) p)
       shifts (λ s r. left_claim i w wide left right b.0 ll v p r)
       (λ s r. right_claim i w wide left right b.0 ll v (same_type_lem (type_at g left) (ty.Bits w) (tests (same_type (type_at g left) (ty.Bits w)) _ s).0) p r)

@@ -3,7 +3,7 @@ use mathlib.Core.Path.{◌≡◌, refl, sym, ap, ◌∙◌, subst}
 use mathlib.Core.Bool.{Bool, true, false, false≢true, ◌&&◌, ◌||◌}
 use mathlib.Core.List.{List}
 use mathlib.Core.Logic.{⊎_elim}
-use mathlib.Core.Option.{Option, none, some}
+use Rattle.std.specs.Prelude.{Option, None, Some}
 use Prim.Native.Nat.{ℕ, ◌+◌, ◌-◌, ◌*◌, ◌/◌, ◌%◌, ◌^◌, ◌≤◌, ◌<◌}
 use native.Mathlib.Nat.{mod-lt, mod-eq_of_lt, div-one, lt_of_lt_of_le}
 use native.Mathlib.Omega.{arith}
@@ -49,7 +49,7 @@ use Rattle.meaning.proofs.Field.{means_at, below_at, typed_at, literal-value, si
 
 -- ---- bits of numbers
 
-low_is : (w x v : ℕ) → valued (ty.Bits w) x ≡ some v → v ≡ x % 2 ^ w
+low_is : (w x v : ℕ) → valued (ty.Bits w) x ≡ Some v → v ≡ x % 2 ^ w
 low_is w x v e = (typed_is (ty.Bits w) (x % 2 ^ w) v e).0
 
 at_zero : (x o : ℕ) → o ≡ 0 → x / 2 ^ o ≡ x
@@ -79,23 +79,23 @@ neither false t e = refl
 
 -- ---- what a slice asks for
 
-slice_covers : (w o : ℕ) (a b : Option ℕ) → ((x : ℕ) → a ≡ some x → b ≡ some (x / 2 ^ o % 2 ^ w)) → Covers (slice_means (ty.Bits w) o a) b
+slice_covers : (w o : ℕ) (a b : Option ℕ) → ((x : ℕ) → a ≡ Some x → b ≡ Some (x / 2 ^ o % 2 ^ w)) → Covers (slice_means (ty.Bits w) o a) b
 slice_covers w o a b f v e =
-    let p = then_is a (λ x. valued (ty.Bits w) (x / 2 ^ o)) v e in f p.0 p.1 ∙ ap some (sym (low_is w (p.0 / 2 ^ o) v p.2))
+    let p = then_is a (λ x. valued (ty.Bits w) (x / 2 ^ o)) v e in f p.0 p.1 ∙ ap Some (sym (low_is w (p.0 / 2 ^ o) v p.2))
 
 module _ {ρ : World} {g : List ℕ} (i : Inv ρ g) (n o w : ℕ) (l : n < count_of g) (wide : w ≤ 128) where
   abbrev Asked : Plan → Type 0
   Asked p = Claim ρ g (ty.Bits w) (slice_means (ty.Bits w) o (value ρ g n)) p
 
   abbrev Sliced : Option ℕ → Type 0
-  Sliced b = (x : ℕ) → value ρ g n ≡ some x → b ≡ some (x / 2 ^ o % 2 ^ w)
+  Sliced b = (x : ℕ) → value ρ g n ≡ Some x → b ≡ Some (x / 2 ^ o % 2 ^ w)
 
   -- a constant
-  number_claim : (c : ℕ) → (ρ.IsSure → (x : ℕ) → value ρ g n ≡ some x → x / 2 ^ o ≡ c) → Asked (plan.constant (ty.Bits w) c)
+  number_claim : (c : ℕ) → (ρ.IsSure → (x : ℕ) → value ρ g n ≡ Some x → x / 2 ^ o ≡ c) → Asked (plan.constant (ty.Bits w) c)
   number_claim c f = (
     refl,
     bits_number wide c,
-    λ sure. slice_covers w o (value ρ g n) (some (c % 2 ^ w)) (λ x m. ap (λ (k : ℕ). some (k % 2 ^ w)) (sym (f sure x m))),
+    λ sure. slice_covers w o (value ρ g n) (Some (c % 2 ^ w)) (λ x m. ap (λ (k : ℕ). Some (k % 2 ^ w)) (sym (f sure x m))),
   )
 
   -- another slice
@@ -104,8 +104,8 @@ module _ {ρ : World} {g : List ℕ} (i : Inv ρ g) (n o w : ℕ) (l : n < count
 
   -- ---- by the range
 
-  module _ (a : Interval) (e : range_at g n ≡ some a) (up : nonnegative a ≡ true) where
-    none_kept : eqb (lowered (residue 128 a.high) o) 0 ≡ true → ρ.IsSure → (x : ℕ) → value ρ g n ≡ some x → x / 2 ^ o ≡ 0
+  module _ (a : Interval) (e : range_at g n ≡ Some a) (up : nonnegative a ≡ true) where
+    none_kept : eqb (lowered (residue 128 a.high) o) 0 ≡ true → ρ.IsSure → (x : ℕ) → value ρ g n ≡ Some x → x / 2 ^ o ≡ 0
     none_kept z sure x m =
         let small = value_pattern i n l x m in
         by a.high (eqb-true (lowered (residue 128 a.high) o) 0 z) (i.ends n l a e).high
@@ -124,11 +124,11 @@ module _ {ρ : World} {g : List ℕ} (i : Inv ρ g) (n o w : ℕ) (l : n < count
   start_covers : o ≡ 0 → Covers (slice_means (ty.Bits w) o (value ρ g n)) (and_then (value ρ g n) (valued (ty.Bits w)))
   start_covers z =
       slice_covers w o (value ρ g n) (and_then (value ρ g n) (valued (ty.Bits w)))
-      (λ x m. rw m (low_valued w x ∙ ap (λ (k : ℕ). some (k % 2 ^ w)) (sym (at_zero x o z))))
+      (λ x m. rw m (low_valued w x ∙ ap (λ (k : ℕ). Some (k % 2 ^ w)) (sym (at_zero x o z))))
 
   bounded_claim : (r : Option Interval) → range_at g n ≡ r → (d : Plan) → Asked d → Asked (given (bounded_plan r n o w) (λ p. p) d)
-  bounded_claim none e d k = k
-  bounded_claim (some a) e d k =
+  bounded_claim None e d k = k
+  bounded_claim (Some a) e d k =
       by_provided Decided (nonnegative a)
       (λ up.
       by_test Decided (eqb (lowered (residue 128 a.high) o) 0) (λ z. number_claim 0 (none_kept a e up z))
@@ -170,15 +170,15 @@ module _ {ρ : World} {g : List ℕ} (i : Inv ρ g) (n o w : ℕ) (l : n < count
       let t : type_at g n ≡ ty.Bits u = typed_at ρ g i n l (node.slice m p u) e in
       let s = then_is (value ρ g m) (λ y. valued (type_at g n) (y / 2 ^ p)) x (means_at ρ g i n l x q (node.slice m p u) e) in
       let d : x ≡ s.0 / 2 ^ p % 2 ^ u = low_is u (s.0 / 2 ^ p) x (ap (λ (c : ScalarType). valued c (s.0 / 2 ^ p)) (sym t) ∙ s.2) in
-      rw s.1 (low_valued w (s.0 / 2 ^ (p + o)) ∙ ap some (sym (slice-slice s.0 p u o w f) ∙ ap (λ (k : ℕ). k / 2 ^ o % 2 ^ w) (sym d))))
+      rw s.1 (low_valued w (s.0 / 2 ^ (p + o)) ∙ ap Some (sym (slice-slice s.0 p u o w f) ∙ ap (λ (k : ℕ). k / 2 ^ o % 2 ^ w) (sym d))))
 
   -- the parts of a concat, and where they are
   record Joined (h j v : ℕ) : Type 0 where
     high : h < count_of g
     low : j < count_of g
     narrow : v ≤ 128
-    parts : (x : ℕ) → value ρ g n ≡ some x
-        → (a : ℕ) × (b : ℕ) × (value ρ g h ≡ some a) × (value ρ g j ≡ some b) × (b < 2 ^ v) × (x ≡ a * 2 ^ v + b)
+    parts : (x : ℕ) → value ρ g n ≡ Some x
+        → (a : ℕ) × (b : ℕ) × (value ρ g h ≡ Some a) × (value ρ g j ≡ Some b) × (b < 2 ^ v) × (x ≡ a * 2 ^ v + b)
 
   joined : (h j v : ℕ) → operation_at g n ≡ node.concat h j v → Joined h j v
   joined h j v e =
@@ -209,14 +209,14 @@ module _ {ρ : World} {g : List ℕ} (i : Inv ρ g) (n o w : ℕ) (l : n < count
       tail_claim h (o - v) d.high
       (λ x q.
       let (a, b, ea, eb, sb, s) = d.parts x q in
-      rw ea (low_valued w (a / 2 ^ (o - v)) ∙ ap some (sym (slice_high a b v o w sb (leb-true v o f)) ∙ ap (λ (k : ℕ). k / 2 ^ o % 2 ^ w) (sym s)))))
+      rw ea (low_valued w (a / 2 ^ (o - v)) ∙ ap Some (sym (slice_high a b v o w sb (leb-true v o f)) ∙ ap (λ (k : ℕ). k / 2 ^ o % 2 ^ w) (sym s)))))
       (λ f.
       by_test Asked (leb (o + w) v)
       (λ c.
       tail_claim j o d.low
       (λ x q.
       let (a, b, ea, eb, sb, s) = d.parts x q in
-      rw eb (low_valued w (b / 2 ^ o) ∙ ap some (sym (slice_low a b v o w sb (leb-true (o + w) v c)) ∙ ap (λ (k : ℕ). k / 2 ^ o % 2 ^ w) (sym s)))))
+      rw eb (low_valued w (b / 2 ^ o) ∙ ap Some (sym (slice_low a b v o w sb (leb-true (o + w) v c)) ∙ ap (λ (k : ℕ). k / 2 ^ o % 2 ^ w) (sym s)))))
       (λ c. split_claim (leb-false v o f) (leb-false (o + w) v c)))
     where
       split_claim : o < v → v < o + w → Asked (plan.split_concat j o (v - o) h (w - (v - o)) w)
@@ -234,7 +234,7 @@ module _ {ρ : World} {g : List ℕ} (i : Inv ρ g) (n o w : ℕ) (l : n < count
             ∙ (λ k. concat_means (ty.Bits w) (v - o) (low_valued (w - (v - o)) (a / 2 ^ 0) k) (low_valued (v - o) (b / 2 ^ o) k))
             ∙ ap (valued (ty.Bits w)) (sym (slice_split a b v o w sb f c))
             ∙ valued_same (ty.Bits w) ((a * 2 ^ v + b) / 2 ^ o % 2 ^ w) (mod-lt ((a * 2 ^ v + b) / 2 ^ o) (pow_pos w))
-            ∙ ap (λ (k : ℕ). some (k / 2 ^ o % 2 ^ w)) (sym s)),
+            ∙ ap (λ (k : ℕ). Some (k / 2 ^ o % 2 ^ w)) (sym s)),
       )
 
   operation_claim : o < 128 → (p : Op) → operation_at g n ≡ p → Asked (slice_operation p n o w)
@@ -264,7 +264,7 @@ module _ {ρ : World} {g : List ℕ} (i : Inv ρ g) (n o w : ℕ) (l : n < count
         means = λ sure. slice_covers w o (value ρ g n) (value ρ g n)
             (λ x m.
             let q : x < 2 ^ w = subst (λ (r : ScalarType). x < size r) s (value_small i n l x m) in
-            m ∙ ap some (sym (ap (λ (k : ℕ). k % 2 ^ w) (at_zero x o (eqb-true o 0 c.0)) ∙ mod-eq_of_lt q)));
+            m ∙ ap Some (sym (ap (λ (k : ℕ). k % 2 ^ w) (at_zero x o (eqb-true o 0 c.0)) ∙ mod-eq_of_lt q)));
       })
       (λ f. operation_claim (leb-false 128 o (neither (leb 128 o) (above (type_at g n) o) e)) (operation_at g n) refl))
 
@@ -272,9 +272,9 @@ module _ {ρ : World} {g : List ℕ} (i : Inv ρ g) (n o w : ℕ) (l : n < count
   unfolding slice_plan
   slice_plan_claim = bounded_claim (range_at g n) refl (slice_part g n o w) part_claim
 
-  slice-constant_claim : (c : ℕ) → literal g n ≡ some c → Claim ρ g (ty.Bits w) (slice_means (ty.Bits w) o (value ρ g n)) (plan.constant (ty.Bits w) (lowered c o))
+  slice-constant_claim : (c : ℕ) → literal g n ≡ Some c → Claim ρ g (ty.Bits w) (slice_means (ty.Bits w) o (value ρ g n)) (plan.constant (ty.Bits w) (lowered c o))
   slice-constant_claim c e =
-      let m : value ρ g n ≡ some c = literal-value ρ g i n c l e in
+      let m : value ρ g n ≡ Some c = literal-value ρ g i n c l e in
       number_claim (lowered c o)
       (λ sure x q. ap (λ (k : ℕ). k / 2 ^ o) (some_is (sym q ∙ m)) ∙ sym (lowered_is c o (value_pattern i n l c m)))
 

@@ -3,7 +3,7 @@ use mathlib.Core.Path.{◌≡◌, refl, sym, ap, ◌∙◌, subst}
 use mathlib.Core.Bool.{Bool, true, ◌&&◌}
 use mathlib.Core.List.{List}
 use mathlib.Core.Logic.{⊎_elim}
-use mathlib.Core.Option.{some}
+use Rattle.std.specs.Prelude.{Some}
 use Prim.Native.Nat.{ℕ, ◌+◌, ◌-◌, ◌%◌, ◌^◌, ◌≤◌, ◌<◌, min}
 use native.Mathlib.Nat.{mod-eq_of_lt, min-eq_left}
 use native.Mathlib.Omega.{arith}
@@ -83,7 +83,7 @@ module _ (ρ : World) (g : List ℕ) (i : Inv ρ g) (v low high w : ℕ) (l : v 
   number n = let k = narrow in bits_number (omega arith) n
 
   -- the difference with low, as the node of it has it
-  difference : (a : ℕ) → a < 2 ^ w → binary_means (ty.Bits w) bi.Sub (some a) (some (reduced (ty.Bits w) low)) ≡ some ((a + (2 ^ w - low)) % 2 ^ w)
+  difference : (a : ℕ) → a < 2 ^ w → binary_means (ty.Bits w) bi.Sub (Some a) (Some (reduced (ty.Bits w) low)) ≡ Some ((a + (2 ^ w - low)) % 2 ^ w)
   unfolding binary_value
   difference a la =
       let n = narrow in
@@ -94,8 +94,8 @@ module _ (ρ : World) (g : List ℕ) (i : Inv ρ g) (v low high w : ℕ) (l : v 
   extent = let n = narrow in sub_low w high low (omega arith) high_small low_small ∙ sub_exact high low (2 ^ w) high_small ordered
 
   compared : (a : ℕ) → a < 2 ^ w
-      → binary_means ty.Bool bi.LessEqualUnsigned (some ((a + (2 ^ w - low)) % 2 ^ w)) (some (reduced (ty.Bits w) (u128.wrapping_sub high low)))
-      ≡ some (from_bool (leb low a && leb a high))
+      → binary_means ty.Bool bi.LessEqualUnsigned (Some ((a + (2 ^ w - low)) % 2 ^ w)) (Some (reduced (ty.Bits w) (u128.wrapping_sub high low)))
+      ≡ Some (from_bool (leb low a && leb a high))
   unfolding binary_value
   compared a la =
       ap (λ (k : ℕ). of_type ty.Bool (from_bool (leb ((a + (2 ^ w - low)) % 2 ^ w) k))) extent
@@ -122,11 +122,11 @@ module _ (ρ : World) (g : List ℕ) (i : Inv ρ g) (v low high w : ℕ) (l : v 
               f.here,
               ap (λ (s : ScalarType). stored_typed bi.LessEqualUnsigned s (ty.Bits w) ty.Bool) f.type ∙ eq-eqb w w refl,
               λ sure x e.
-                  let p = then_is (value ρ g v) (λ y. some (from_bool (leb low y && leb y high))) x e in
+                  let p = then_is (value ρ g v) (λ y. Some (from_bool (leb low y && leb y high))) x e in
                   let small : p.0 < 2 ^ w = subst (λ (s : ScalarType). p.0 < size s) type (value_small i v l p.0 p.1) in
-                  let d : binary_means (ty.Bits w) bi.Sub (value ρ h v) (value ρ h c) ≡ some ((p.0 + (2 ^ w - low)) % 2 ^ w)
+                  let d : binary_means (ty.Bits w) bi.Sub (value ρ h v) (value ρ h c) ≡ Some ((p.0 + (2 ^ w - low)) % 2 ^ w)
                   = (λ k. binary_means (ty.Bits w) bi.Sub ((ext_value ρ a.grows v l ∙ p.1) k) (m sure k)) ∙ difference p.0 small in
-                  (λ k. binary_means ty.Bool bi.LessEqualUnsigned (f.means sure ((p.0 + (2 ^ w - low)) % 2 ^ w) d k) (some (reduced (ty.Bits w) (u128.wrapping_sub high low))))
+                  (λ k. binary_means ty.Bool bi.LessEqualUnsigned (f.means sure ((p.0 + (2 ^ w - low)) % 2 ^ w) d k) (Some (reduced (ty.Bits w) (u128.wrapping_sub high low))))
                   ∙ compared p.0 small ∙ p.2,
             ),
       ))

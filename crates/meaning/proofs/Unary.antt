@@ -1,8 +1,8 @@
--- Derived ranges have ends of 128 bits and pass question 1; results are of their types; unary's plans claim what is asked of them. Assumes nothing.
+-- Option (Option Range) ranges have ends of 128 bits and pass question 1; results are of their types; unary's plans claim what is asked of them. Assumes nothing.
 use mathlib.Core.Path.{◌≡◌, refl, sym, ap, ◌∙◌, subst}
 use mathlib.Core.Bool.{Bool, true, false, not, false≢true, ◌&&◌}
 use mathlib.Core.List.{List, ◌∷◌}
-use mathlib.Core.Option.{Option, none, some}
+use Rattle.std.specs.Prelude.{Option, None, Some}
 use Prim.Native.Nat.{ℕ, ◌+◌, ◌-◌, ◌*◌, ◌%◌, ◌^◌, ◌≤◌, ◌<◌}
 use native.Mathlib.Nat.{lt_of_lt_of_le, lt_of_le_of_lt, mod-lt, mod-le, div-le_self}
 use native.Mathlib.Omega.{arith}
@@ -90,24 +90,24 @@ unfolding shifted
 shifted_small z n = each_provided Small (ltb (clamped n) 127) (λ q. fitted_small _)
 
 between_ends : (o p : Option ℤ) → Each Small o → Each Small p → Each Ends (between o p)
-between_ends none p f g = each_none Ends
-between_ends (some l) none f g = each_none Ends
-between_ends (some l) (some h) f g = each_some Ends _ (record { low = f l refl; high = g h refl })
+between_ends None p f g = each_none Ends
+between_ends (Some l) None f g = each_none Ends
+between_ends (Some l) (Some h) f g = each_some Ends _ (record { low = f l refl; high = g h refl })
 
 corners_ends : (o p q r : Option ℤ) → Each Small o → Each Small p → Each Small q → Each Small r → Each Ends (corners_of o p q r)
-corners_ends none p q r a b c d = each_none Ends
-corners_ends (some i) none q r a b c d = each_none Ends
-corners_ends (some i) (some j) none r a b c d = each_none Ends
-corners_ends (some i) (some j) (some k) none a b c d = each_none Ends
-corners_ends (some i) (some j) (some k) (some l) a b c d =
+corners_ends None p q r a b c d = each_none Ends
+corners_ends (Some i) None q r a b c d = each_none Ends
+corners_ends (Some i) (Some j) None r a b c d = each_none Ends
+corners_ends (Some i) (Some j) (Some k) None a b c d = each_none Ends
+corners_ends (Some i) (Some j) (Some k) (Some l) a b c d =
     each_some Ends _ (record {
       low = min_small (min_z i j) (min_z k l) (min_small i j (a i refl) (b j refl)) (min_small k l (c k refl) (d l refl));
       high = max_small (max_z i j) (max_z k l) (max_small i j (a i refl) (b j refl)) (max_small k l (c k refl) (d l refl));
     })
 
 at_most_small : (z : ℤ) (o : Option ℤ) → Small z → Each Small o → Each Small (at_most z o)
-at_most_small z none f g = each_none Small
-at_most_small z (some m) f g = each_some Small _ (min_small z m f (g m refl))
+at_most_small z None f g = each_none Small
+at_most_small z (Some m) f g = each_some Small _ (min_small z m f (g m refl))
 
 -- a range cut to a size, stretched to 0, goes no further than its ends and 0
 cut-ends : (a : Interval) (m : ℤ) → Ends a → Ends (cut a m)
@@ -125,9 +125,9 @@ cut-ends a m e = record {
 }
 
 cut_to-ends : (a : Interval) (o p : Option ℤ) → Ends a → Each Ends (cut_to a o p)
-cut_to-ends a none p e = each_none Ends
-cut_to-ends a (some m) none e = each_none Ends
-cut_to-ends a (some m) (some n) e = each_some Ends _ (cut-ends a (max_z m n) e)
+cut_to-ends a None p e = each_none Ends
+cut_to-ends a (Some m) None e = each_none Ends
+cut_to-ends a (Some m) (Some n) e = each_some Ends _ (cut-ends a (max_z m n) e)
 
 -- ---- ends of the rules' ranges
 
@@ -194,17 +194,17 @@ unfolding filtered
 filtered-ends w a f = each_provided Ends (ltb w 128 && (nonnegative a && le_z a.high (pos (2 ^ w - 1)))) (λ q. each_some Ends a f)
 
 held_ends : (w : ℕ) (m : Option Interval) → Each Ends m → Each Ends (or_else (held_to w m) (type_interval (ty.Bits w)))
-held_ends w none f = type-ends (ty.Bits w)
-held_ends w (some a) f = each_else Ends (filtered w a) (filtered-ends w a (f a refl)) (type-ends (ty.Bits w))
+held_ends w None f = type-ends (ty.Bits w)
+held_ends w (Some a) f = each_else Ends (filtered w a) (filtered-ends w a (f a refl)) (type-ends (ty.Bits w))
 
-pub binary-ends : (o : Binary) (t : ScalarType) (ra rb r : Option Interval) → ((a : Interval) → ra ≡ some a → Ends a)
-    → ((a : Interval) → rb ≡ some a → Ends a) → binary_range t o ra rb ≡ some r → (a : Interval) → r ≡ some a → Ends a
+pub binary-ends : (o : Binary) (t : ScalarType) (ra rb r : Option Interval) → ((a : Interval) → ra ≡ Some a → Ends a)
+    → ((a : Interval) → rb ≡ Some a → Ends a) → binary_range t o ra rb ≡ Some r → (a : Interval) → r ≡ Some a → Ends a
 unfolding binary_range
 binary-ends o ty.Bool ra rb r f g e = subst (Each Ends) (some_is e) (type-ends ty.Bool)
 binary-ends o (ty.Bits w) ra rb r f g e =
     subst (Each Ends) (some_is e) (held_ends w _ (given_ends (bits_rule o) (λ b c h k. bits_ends b c h k o) ra rb f g))
 binary-ends o ty.Integer ra rb r f g e =
-    each_mapped (Each Ends) some (both_given ra rb (integer_rule o))
+    each_mapped (Each Ends) Some (both_given ra rb (integer_rule o))
     (λ a q. each_some Ends a (given_ends (integer_rule o) (λ b c h k. integer_ends b c h k o) ra rb f g a q)) r e
 
 extended-ends : (w : ℕ) → Each Ends (sign_extended w)
@@ -222,13 +222,13 @@ negated_ends : (a : Interval) → Each Ends (neg_interval a)
 unfolding neg_interval
 negated_ends a = between_ends _ _ (fitted_small _) (fitted_small _)
 
-unary-ends : (o : Unary) (t : ScalarType) (ra r : Option Interval) → ((a : Interval) → ra ≡ some a → Ends a) → unary_range t o ra ≡ some r
-    → (a : Interval) → r ≡ some a → Ends a
+unary-ends : (o : Unary) (t : ScalarType) (ra r : Option Interval) → ((a : Interval) → ra ≡ Some a → Ends a) → unary_range t o ra ≡ Some r
+    → (a : Interval) → r ≡ Some a → Ends a
 unfolding unary_range
 unary-ends un.BoolNot t ra r f e = subst (Each Ends) (some_is e) (type-ends t)
 unary-ends un.BitNot t ra r f e = subst (Each Ends) (some_is e) (type-ends t)
-unary-ends un.Negate t none r f e = absurd (none-some e)
-unary-ends un.Negate t (some p) r f e = each_mapped (Each Ends) some (neg_interval p) (λ a q. each_some Ends a (negated_ends p a q)) r e
+unary-ends un.Negate t None r f e = absurd (none-some e)
+unary-ends un.Negate t (Some p) r f e = each_mapped (Each Ends) Some (neg_interval p) (λ a q. each_some Ends a (negated_ends p a q)) r e
 unary-ends (un.Truncate w) t ra r f e = subst (Each Ends) (some_is e) (type-ends t)
 unary-ends (un.SignExtend w) ty.Bool ra r f e = subst (Each Ends) (some_is e) (type-ends ty.Bool)
 unary-ends (un.SignExtend w) (ty.Bits n) ra r f e = subst (Each Ends) (some_is e) (type-ends (ty.Bits n))
@@ -253,12 +253,12 @@ module _ (a b : Interval) (f : Full a) (g : Full b) where
       (λ r. shl_full a b r f g) (λ r. shr_full a b r f g s)
 
 held_valid : (w : ℕ) (m : Option Interval) → Each Full m → Each (Valid (ty.Bits w)) (or_else (held_to w m) (type_interval (ty.Bits w)))
-held_valid w none f = type_valid (ty.Bits w)
-held_valid w (some a) f = each_else (Valid (ty.Bits w)) (filtered w a) (λ r. filtered_valid w a r (f a refl)) (type_valid (ty.Bits w))
+held_valid w None f = type_valid (ty.Bits w)
+held_valid w (Some a) f = each_else (Valid (ty.Bits w)) (filtered w a) (λ r. filtered_valid w a r (f a refl)) (type_valid (ty.Bits w))
 
-pub binary_valid : (o : Binary) (t ta tb : ScalarType) (ra rb r : Option Interval) → ((a : Interval) → ra ≡ some a → Valid ta a)
-    → ((a : Interval) → rb ≡ some a → Valid tb a) → ((a : Interval) → ra ≡ some a → Ends a) → binary_range t o ra rb ≡ some r
-    → (a : Interval) → r ≡ some a → Valid t a
+pub binary_valid : (o : Binary) (t ta tb : ScalarType) (ra rb r : Option Interval) → ((a : Interval) → ra ≡ Some a → Valid ta a)
+    → ((a : Interval) → rb ≡ Some a → Valid tb a) → ((a : Interval) → ra ≡ Some a → Ends a) → binary_range t o ra rb ≡ Some r
+    → (a : Interval) → r ≡ Some a → Valid t a
 unfolding binary_range
 binary_valid o ty.Bool ta tb ra rb r f g ends e = subst (Each (Valid ty.Bool)) (some_is e) (type_valid ty.Bool)
 binary_valid o (ty.Bits w) ta tb ra rb r f g ends e =
@@ -266,20 +266,20 @@ binary_valid o (ty.Bits w) ta tb ra rb r f g ends e =
     let (a, b, i, j, k) = both_given_lem (bits_rule o) ra rb q in
     bits_full a b (f a i).full (g b j).full (ends a i).low o c k))
 binary_valid o ty.Integer ta tb ra rb r f g ends e =
-    each_mapped (Each (Valid ty.Integer)) some (both_given ra rb (integer_rule o))
+    each_mapped (Each (Valid ty.Integer)) Some (both_given ra rb (integer_rule o))
     (λ c q.
     let (a, b, i, j, k) = both_given_lem (integer_rule o) ra rb q in
     each_some (Valid ty.Integer) c (integer_valid (integer_full a b (f a i).full (g b j).full o c k))) r e
 
-unary_valid : (o : Unary) (t s : ScalarType) (ra r : Option Interval) → unary_typed o s t ≡ true → ((a : Interval) → ra ≡ some a → Valid s a)
-    → unary_range t o ra ≡ some r → (a : Interval) → r ≡ some a → Valid t a
+unary_valid : (o : Unary) (t s : ScalarType) (ra r : Option Interval) → unary_typed o s t ≡ true → ((a : Interval) → ra ≡ Some a → Valid s a)
+    → unary_range t o ra ≡ Some r → (a : Interval) → r ≡ Some a → Valid t a
 unfolding unary_range
 unary_valid un.BoolNot t s ra r d f e = subst (Each (Valid t)) (some_is e) (type_valid t)
 unary_valid un.BitNot t s ra r d f e = subst (Each (Valid t)) (some_is e) (type_valid t)
-unary_valid un.Negate t s none r d f e = absurd (none-some e)
-unary_valid un.Negate t s (some p) r d f e =
+unary_valid un.Negate t s None r d f e = absurd (none-some e)
+unary_valid un.Negate t s (Some p) r d f e =
     let j : t ≡ ty.Integer = same_type_lem t ty.Integer (tests (same_type s ty.Integer) (same_type t ty.Integer) d).1 in
-    rw j (each_mapped (Each (Valid ty.Integer)) some (neg_interval p)
+    rw j (each_mapped (Each (Valid ty.Integer)) Some (neg_interval p)
     (λ a q. each_some (Valid ty.Integer) a (integer_valid (neg_full p a (f p refl).full q))) r e)
 unary_valid (un.Truncate w) t s ra r d f e = subst (Each (Valid t)) (some_is e) (type_valid t)
 unary_valid (un.SignExtend w) ty.Bool s ra r d f e = subst (Each (Valid ty.Bool)) (some_is e) (type_valid ty.Bool)
@@ -341,7 +341,7 @@ integer_unary (un.TrailingZeros w) s x d =
     let l = trailing_le 128 (x % 2 ^ w) in each_some (Below (2 ^ 128)) (trailing_in w x) (count_small (trailing_in w x) (omega arith))
 
 unary_small : (o : Unary) (s t : ScalarType) (x u : ℕ) → unary_typed o s t ≡ true → type_width s ≤ 128 → type_width t ≤ 128 → x < size s
-    → unary_value o x ≡ some u → reduced t u < size t
+    → unary_value o x ≡ Some u → reduced t u < size t
 unary_small o s ty.Bool x u d h k l e = bool_unary o s x d u e
 unary_small o s (ty.Bits w) x u d h k l e = mod-lt u (pow_pos w)
 unary_small o s ty.Integer x u d h k l e = integer_unary o s x d u e
@@ -365,7 +365,7 @@ module _ (a b : ScalarType) (x y : ℕ) (l : x < size a) (m : y < size b) where
 
   bool_binary : (o : Binary) → BoolBinary o
   bool_binary o d =
-      let truth : (t : Bool) → Each (Below 2) (some (from_bool t)) = λ t. each_some (Below 2) _ (truth_small t) in
+      let truth : (t : Bool) → Each (Below 2) (Some (from_bool t)) = λ t. each_some (Below 2) _ (truth_small t) in
       of_any BoolBinary bool_ops
       (λ d. let (p, q) = operands_small ty.Bool d in each_some (Below 2) _ (and_lt 1 x y p q))
       (λ d. let (p, q) = operands_small ty.Bool d in each_some (Below 2) _ (or_lt 1 x y p q))
@@ -401,7 +401,7 @@ module _ (a b : ScalarType) (x y : ℕ) (l : x < size a) (m : y < size b) where
       each_provided (Below (2 ^ 128)) (ltb 0 y) (λ q. each_some (Below (2 ^ 128)) _ (lt_of_le_of_lt (mod-le x y) (operands_small ty.Integer d).0))
 
 pub binary_small : (o : Binary) (a b t : ScalarType) (x y v : ℕ) → stored_typed o a b t ≡ true → type_width t ≤ 128 → x < size a → y < size b
-    → binary_value o t x y ≡ some v → v < size t
+    → binary_value o t x y ≡ Some v → v < size t
 unfolding binary_value
 binary_small o a b ty.Bool x y v d h l m = each_mapped (Below 2) (reduced ty.Bool) (unreduced o ty.Bool x y) (bool_binary a b x y l m o d) v
 binary_small o a b (ty.Bits w) x y v d h l m =
@@ -412,12 +412,12 @@ binary_small o a b ty.Integer x y v d h l m =
 -- ---- unary's plans
 
 -- a value below half of w bits is its own sign extension
-extended_same : (w x : ℕ) → 0 < w → w ≤ 128 → x < 2 ^ (w - 1) → x < 2 ^ 128 → unary_value (un.SignExtend w) x ≡ some x
+extended_same : (w x : ℕ) → 0 < w → w ≤ 128 → x < 2 ^ (w - 1) → x < 2 ^ 128 → unary_value (un.SignExtend w) x ≡ Some x
 unfolding unary_value
 extended_same w x p h l k =
     let t : 2 ^ w ≡ 2 ^ (w - 1) + 2 ^ (w - 1) = half_twice w p in
     rw (ne_eqb w 0 (omega arith))
-    (ap some (ap (residue 128) (extended-field x w p h (omega arith) ∙ signed_low w x l) ∙ residue-pos 128 x k))
+    (ap Some (ap (residue 128) (extended-field x w p h (omega arith) ∙ signed_low w x l) ∙ residue-pos 128 x k))
 
 -- where the operator leaves the value as it is
 view_covers : {ρ : World} {g : List ℕ} → Inv ρ g → (n : ℕ) → n < count_of g → (t : ScalarType) (o : Unary) → unary_typed o (type_at g n) t ≡ true
@@ -439,23 +439,23 @@ view_covers i n l t (un.TrailingZeros w) d e sure = absurd (false≢true e)
 
 module _ {ρ : World} {g : List ℕ} (i : Inv ρ g) (n : ℕ) (l : n < count_of g) (t : ScalarType) (o : Unary) (wide : type_width t ≤ 128)
     (width : unary_width o ≤ 128) (typed : unary_typed o (type_at g n) t ≡ true) where
-  pub unary-constant_claim : (c : ℕ) → literal g n ≡ some c → Claim ρ g t (unary_means t o (value ρ g n)) (constant_or t (unary_value o c))
+  pub unary-constant_claim : (c : ℕ) → literal g n ≡ Some c → Claim ρ g t (unary_means t o (value ρ g n)) (constant_or t (unary_value o c))
   unary-constant_claim c e = go (unary_value o c) refl
     where
-      same : value ρ g n ≡ some c
+      same : value ρ g n ≡ Some c
       same = literal-value ρ g i n c l e
 
       go : (r : Option ℕ) → unary_value o c ≡ r → Claim ρ g t (unary_means t o (value ρ g n)) (constant_or t r)
-      go none q = tt
-      go (some u) q = (
+      go None q = tt
+      go (Some u) q = (
         refl,
         record { width = wide; small = unary_small o (type_at g n) t c u typed (inv_width i n l) wide (value_small i n l c same) q },
         λ sure v f.
-            let m : valued t u ≡ some v = rw (same, q) at f in
-            ap some (sym (typed_is t (reduced t u) v m).0),
+            let m : valued t u ≡ Some v = rw (same, q) at f in
+            ap Some (sym (typed_is t (reduced t u) v m).0),
       )
 
-  unary_storable : (r : Option Interval) → unary_range t o (range_at g n) ≡ some r → Storable ρ g t r (node.unary o n)
+  unary_storable : (r : Option Interval) → unary_range t o (range_at g n) ≡ Some r → Storable ρ g t r (node.unary o n)
   unary_storable r e =
       let ends = unary-ends o t (range_at g n) r (i.ends n l) e in
       record {
@@ -479,8 +479,8 @@ module _ {ρ : World} {g : List ℕ} (i : Inv ρ g) (n : ℕ) (l : n < count_of 
 
   add_claim : (r : Option (Option Interval)) → unary_range t o (range_at g n) ≡ r
       → Claim ρ g t (unary_means t o (value ρ g n)) (add_or t r (node.unary o n))
-  add_claim none e = tt
-  add_claim (some r) e = (refl, unary_storable r e, λ sure v q. q)
+  add_claim None e = tt
+  add_claim (Some r) e = (refl, unary_storable r e, λ sure v q. q)
 
   pub unary_plan_claim : Claim ρ g t (unary_means t o (value ρ g n)) (unary_plan g t o n)
   unfolding unary_plan

@@ -3,7 +3,7 @@ use mathlib.Core.Path.{◌≡◌, refl, sym, ap, ◌∙◌, subst}
 use mathlib.Core.Bool.{Bool, true}
 use mathlib.Core.List.{List}
 use mathlib.Core.Logic.{⊎_elim}
-use mathlib.Core.Option.{Option, some}
+use Rattle.std.specs.Prelude.{Option, Some}
 use Prim.Native.Nat.{ℕ, ◌+◌, ◌-◌, ◌%◌, ◌^◌, ◌≤◌, ◌<◌}
 use native.Mathlib.Nat.{mod-lt}
 use native.Mathlib.Omega.{arith}
@@ -47,8 +47,8 @@ use Rattle.meaning.proofs.Offsets.{Arithmetic, link, Shifts, add-shifts, sub-shi
 
 -- an integer between limits
 pub record Obeys (z : ℤ) (l : Limits) : Type 0 where
-  pub least : (m : ℤ) → l.lower ≡ some m → m ≤ℤ z
-  pub most : (m : ℤ) → l.upper ≡ some m → z ≤ℤ m
+  pub least : (m : ℤ) → l.lower ≡ Some m → m ≤ℤ z
+  pub most : (m : ℤ) → l.upper ≡ Some m → z ≤ℤ m
 
 -- the ends of a range are limits of what lies in it
 pub obeys : (z : ℤ) (a : Interval) → z ∈ a → Obeys z (limited_to a)
@@ -56,7 +56,7 @@ obeys z a h = record { least = each_some (λ m. m ≤ℤ z) a.low h.above; most 
 
 -- where the values are as declared, node n has one, which lies between the limits
 abbrev pub Held : World → List ℕ → ℕ → Limits → Type 0
-Held ρ g n l = ρ.IsSure → (v : ℕ) × (value ρ g n ≡ some v) × Obeys (integer_of (type_at g n) v) l
+Held ρ g n l = ρ.IsSure → (v : ℕ) × (value ρ g n ≡ Some v) × Obeys (integer_of (type_at g n) v) l
 
 -- a node whose value lies between the limits
 pub record Bounded (ρ : World) (g : List ℕ) (n : ℕ) (l : Limits) : Type 0 where
@@ -106,7 +106,7 @@ numbers w a h v =
 module _ (w : ℕ) (thin : w < 128) (f : ℕ → ℕ) (k : ℕ) (lk : k ≤ 2 ^ w) (law : (n : ℕ) → n < 2 ^ w → f n % 2 ^ w ≡ (n + k) % 2 ^ w)
     (x y : ℕ) (a r : Interval) (valid : Valid (ty.Bits w) a) (small : y < 2 ^ w) (is : x ≡ f y % 2 ^ w) (has : (pos y) ∈ a) where
   -- so it lies between f of the ends, where these come in order
-  bits_in : ordered (f (residue 128 a.low) % 2 ^ w) (f (residue 128 a.high) % 2 ^ w) ≡ some r → (pos x) ∈ r
+  bits_in : ordered (f (residue 128 a.low) % 2 ^ w) (f (residue 128 a.high) % 2 ^ w) ≡ Some r → (pos x) ∈ r
   bits_in e =
       let s = numbers w a thin valid in
       let low : s.m ≤ y = omega (orders, has.above, ap up s.least, ap down s.least) in
@@ -134,7 +134,7 @@ module _ (w : ℕ) (thin : w < 128) (f : ℕ → ℕ) (k : ℕ) (lk : k ≤ 2 ^ 
       end u j q l = ap (λ (i : ℤ). f (residue 128 i) % 2 ^ w) q ∙ ap (λ (i : ℕ). f i % 2 ^ w) (residue-pos 128 j (pattern (ty.Bits w) j wide l)) ∙ law j l
 
 -- what y is by c, x is by what is undone
-undoes : (o : Binary) (w c x y v : ℕ) → Shifts o w c y v → x < 2 ^ w → binary_value o (ty.Bits w) x c ≡ some y → x ≡ v % 2 ^ w
+undoes : (o : Binary) (w c x y v : ℕ) → Shifts o w c y v → x < 2 ^ w → binary_value o (ty.Bits w) x c ≡ Some y → x ≡ v % 2 ^ w
 undoes o w c x y v s l e = eqb-true x (v % 2 ^ w) (sym (s x y l e) ∙ eq-eqb y y refl)
 
 -- ---- of any type
@@ -142,7 +142,7 @@ undoes o w c x y v s l e = eqb-true x (v % 2 ^ w) (sym (s x y l e) ∙ eq-eqb y 
 module _ (c x y : ℕ) (a r : Interval) where
   -- the base lies in what is undone
   abbrev Undoes : ScalarType → Binary → Option Interval → Type 0
-  Undoes t o u = binary_value o t x c ≡ some y → u ≡ some r → (integer_of t x) ∈ r
+  Undoes t o u = binary_value o t x c ≡ Some y → u ≡ Some r → (integer_of t x) ∈ r
 
   -- in Bits(w)
   undone_bits_lem : (w : ℕ) → w < 128 → c < 2 ^ w → x < 2 ^ w → y < 2 ^ w → Valid (ty.Bits w) a → (pos y) ∈ a → (o : Binary) → is_any sums o ≡ true
@@ -182,7 +182,7 @@ module _ (c x y : ℕ) (a r : Interval) where
   undone_in ty.Integer lc lx ly valid h o e q = let p = provided_is (is_any sums o) _ q in undone_integer_lem h o p.0 e p.1
 
 -- only sums are undone
-undone-sums : (t : ScalarType) (o : Binary) (c : ℕ) (a r : Interval) → undone t o c a ≡ some r → is_any sums o ≡ true
+undone-sums : (t : ScalarType) (o : Binary) (c : ℕ) (a r : Interval) → undone t o c a ≡ Some r → is_any sums o ≡ true
 unfolding undone
 undone-sums ty.Bool o c a r e = absurd (none-some e)
 undone-sums (ty.Bits w) o c a r e = (tests (ltb w 128) (is_any sums o) (provided_is _ _ e).0).1
@@ -191,14 +191,14 @@ undone-sums ty.Integer o c a r e = (provided_is (is_any sums o) _ e).0
 -- ---- the base of a node
 
 module _ {ρ : World} {g : List ℕ} (i : Inv ρ g) (n : ℕ) (l : n < count_of g) (a : Interval) (valid : Valid (type_at g n) a)
-    (has : ρ.IsSure → (v : ℕ) × (value ρ g n ≡ some v) × ((integer_of (type_at g n) v) ∈ a)) where
+    (has : ρ.IsSure → (v : ℕ) × (value ρ g n ≡ Some v) × ((integer_of (type_at g n) v) ∈ a)) where
   -- the node that follows has a value in its range
   abbrev Follows : Next → Type 0
   Follows x = Bounded ρ g x.node (limited_to x.range)
 
   -- the base of the sum
-  by_constant_follows : (c : ByConstant) → by_constant_at g (origin g n) ≡ some c → type_at g c.base ≡ type_at g n → (r : Interval)
-      → undone (type_at g n) c.op c.value a ≡ some r → Follows (next c.base r)
+  by_constant_follows : (c : ByConstant) → by_constant_at g (origin g n) ≡ Some c → type_at g c.base ≡ type_at g n → (r : Interval)
+      → undone (type_at g n) c.op c.value a ≡ Some r → Follows (next c.base r)
   by_constant_follows c e s r q =
       let t = type_at g n in
       let (lo, same) = origin-value i n l in

@@ -2,7 +2,7 @@
 use mathlib.Core.Path.{◌≡◌, refl, sym, ap, ◌∙◌}
 use mathlib.Core.Bool.{Bool, true, false}
 use mathlib.Core.List.{List, [], ◌∷◌, ◌++◌}
-use mathlib.Core.Option.{Option, none, some}
+use Rattle.std.specs.Prelude.{Option, None, Some}
 use Prim.Native.Nat.{ℕ, zero, suc, ◌+◌, ◌≤◌, ◌<◌}
 use native.Mathlib.Decide.{dec_lt}
 use native.Mathlib.Numerals.{add-one}
@@ -23,14 +23,14 @@ use Rattle.meaning.specs.Value.{Env, size, of_type, and_then, Operand, operation
 -- ---- defined values
 
 -- a defined value of a type
-pub typed_is : (t : ScalarType) (x v : ℕ) → of_type t x ≡ some v → (v ≡ x) × (v < size t)
+pub typed_is : (t : ScalarType) (x v : ℕ) → of_type t x ≡ Some v → (v ≡ x) × (v < size t)
 unfolding of_type
 typed_is t x v e =
-    let p = provided_is (ltb x (size t)) (some x) e in
+    let p = provided_is (ltb x (size t)) (Some x) e in
     let s : v ≡ x = sym (some_is p.1) in
     (s, rw s (ltb-true x (size t) p.0))
 
-pub typed_of : (t : ScalarType) (x : ℕ) → x < size t → of_type t x ≡ some x
+pub typed_of : (t : ScalarType) (x : ℕ) → x < size t → of_type t x ≡ Some x
 unfolding of_type
 typed_of t x l = rw (lt-ltb x (size t) l)
 
@@ -39,14 +39,14 @@ pub truth_small : (b : Bool) → from_bool b < 2
 truth_small true = omega arith
 truth_small false = omega arith
 
-pub then_is : (a : Option ℕ) (f : ℕ → Option ℕ) (v : ℕ) → and_then a f ≡ some v → (x : ℕ) × (a ≡ some x) × (f x ≡ some v)
-then_is none f v e = absurd (none-some e)
-then_is (some x) f v e = (x, refl, e)
+pub then_is : (a : Option ℕ) (f : ℕ → Option ℕ) (v : ℕ) → and_then a f ≡ Some v → (x : ℕ) × (a ≡ Some x) × (f x ≡ Some v)
+then_is None f v e = absurd (none-some e)
+then_is (Some x) f v e = (x, refl, e)
 
 -- a value that is of the type stays
-pub then_typed : (t : ScalarType) (a : Option ℕ) → ((x : ℕ) → a ≡ some x → x < size t) → and_then a (of_type t) ≡ a
-then_typed t none h = refl
-then_typed t (some x) h = typed_of t x (h x refl)
+pub then_typed : (t : ScalarType) (a : Option ℕ) → ((x : ℕ) → a ≡ Some x → x < size t) → and_then a (of_type t) ≡ a
+then_typed t None h = refl
+then_typed t (Some x) h = typed_of t x (h x refl)
 
 -- ---- values by the nodes below
 
@@ -104,7 +104,7 @@ unfolding value
 value_step ρ g n b = means_same ρ (type_at g n) n (operation_at g n) b _ (operand ρ g) (λ i l. operands_at_lem ρ g n i l)
 
 -- a defined value is of its node's type
-pub means_small : (ρ : Env) (t : ScalarType) (o : Op) (f : ℕ → Operand) (v : ℕ) → operation_means ρ t o f ≡ some v → v < size t
+pub means_small : (ρ : Env) (t : ScalarType) (o : Op) (f : ℕ → Operand) (v : ℕ) → operation_means ρ t o f ≡ Some v → v < size t
 means_small ρ t (node.constant c) f v e = (typed_is t _ v e).1
 means_small ρ t (node.input i) f v e = (typed_is t _ v e).1
 means_small ρ t (node.refine i) f v e = (typed_is t _ v (then_is (f i).val _ v e).2).1

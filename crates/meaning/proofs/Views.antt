@@ -3,7 +3,7 @@ use mathlib.Core.Path.{◌≡◌, refl, sym, ap, ◌∙◌, subst}
 use mathlib.Core.Bool.{Bool, true, false, false≢true}
 use mathlib.Core.List.{List}
 use mathlib.Core.Logic.{⊎_elim}
-use mathlib.Core.Option.{Option, none, some}
+use Rattle.std.specs.Prelude.{Option, None, Some}
 use Prim.Native.Nat.{ℕ, ◌-◌, ◌^◌, ◌≤◌, ◌<◌}
 use native.Mathlib.Nat.{mod-mod, lt_of_le_of_lt}
 use native.Mathlib.Omega.{arith}
@@ -62,7 +62,7 @@ arithmetic_types a b t e =
     let q = same_types_lem a b t p.1 in
     (p.0, q.0, q.1)
 
-module _ {ρ : World} {g : List ℕ} (i : Inv ρ g) (n : ℕ) (l : n < count_of g) (v : ℕ) (e : value ρ g n ≡ some v) where
+module _ {ρ : World} {g : List ℕ} (i : Inv ρ g) (n : ℕ) (l : n < count_of g) (v : ℕ) (e : value ρ g n ≡ Some v) where
   pub value_small : v < size (type_at g n)
   value_small = means_small ρ.env (type_at g n) (operation_at g n) (operand ρ g) v (sym (inv_step i n l) ∙ e)
 
@@ -120,13 +120,13 @@ module _ (s : ScalarType) (x : ℕ) (a : Interval) (small : x < 2 ^ 128) (ends :
 
 -- ---- what a test of a range says
 
-pub fits_facts : (w : ℕ) (r : Option Interval) → fits w r ≡ true → (a : Interval) × (r ≡ some a) × (inside_bits w a ≡ true)
-fits_facts w none e = absurd (false≢true e)
-fits_facts w (some a) e = (a, refl, e)
+pub fits_facts : (w : ℕ) (r : Option Interval) → fits w r ≡ true → (a : Interval) × (r ≡ Some a) × (inside_bits w a ≡ true)
+fits_facts w None e = absurd (false≢true e)
+fits_facts w (Some a) e = (a, refl, e)
 
-negative_facts : (r : Option Interval) → not_negative r ≡ true → (a : Interval) × (r ≡ some a) × (nonnegative a ≡ true)
-negative_facts none e = absurd (false≢true e)
-negative_facts (some a) e = (a, refl, e)
+negative_facts : (r : Option Interval) → not_negative r ≡ true → (a : Interval) × (r ≡ Some a) × (nonnegative a ≡ true)
+negative_facts None e = absurd (false≢true e)
+negative_facts (Some a) e = (a, refl, e)
 
 -- ---- truncation
 
@@ -147,15 +147,15 @@ covers_truncate w a x e =
 
 module _ {ρ : World} {g : List ℕ} (i : Inv ρ g) (v : ℕ) (l : v < count_of g) where
   -- a value of the type asked for is itself
-  pub seen : (t : ScalarType) → ((x : ℕ) → value ρ g v ≡ some x → x < size t) → Covers (and_then (value ρ g v) (valued t)) (value ρ g v)
+  pub seen : (t : ScalarType) → ((x : ℕ) → value ρ g v ≡ Some x → x < size t) → Covers (and_then (value ρ g v) (valued t)) (value ρ g v)
   seen t small x e =
       let p = then_is (value ρ g v) (valued t) x e in
       let q : p.0 ≡ x = some_is (sym (valued_same t p.0 (small p.0 p.1)) ∙ p.2) in
-      p.1 ∙ ap some q
+      p.1 ∙ ap Some q
 
   -- a Refine of a type and with a range that its source's values have
   pub refine_storable : (t : ScalarType) → type_width t ≤ 128 → (a : Interval) → Valid t a → Ends a
-      → (ρ.IsSure → (x : ℕ) → value ρ g v ≡ some x → (x < size t) × ((integer_of t x) ∈ a)) → Storable ρ g t (some a) (node.refine v)
+      → (ρ.IsSure → (x : ℕ) → value ρ g v ≡ Some x → (x < size t) × ((integer_of t x) ∈ a)) → Storable ρ g t (Some a) (node.refine v)
   refine_storable t wide a valid ends has = record {
     stored = record { width = omega arith; low = ends.low; high = ends.high; offset = omega arith; parameter = omega arith };
     width = wide;
@@ -169,11 +169,11 @@ module _ {ρ : World} {g : List ℕ} (i : Inv ρ g) (v : ℕ) (l : v < count_of 
     within = λ sure x q.
         let p = then_is (value ρ g v) (of_type t) x q in
         let same : p.0 ≡ x = sym (typed_is t p.0 x p.2).0 in
-        each_some (λ b. (integer_of t x) ∈ b) a (has sure x (p.1 ∙ ap some same)).1;
+        each_some (λ b. (integer_of t x) ∈ b) a (has sure x (p.1 ∙ ap Some same)).1;
   }
 
-  module _ (t : ScalarType) (wide : type_width t ≤ 128) (a : Interval) (e : range_at g v ≡ some a) (up : nonnegative a ≡ true)
-      (inside : inside_type t a ≡ true) (small : ρ.IsSure → (x : ℕ) → value ρ g v ≡ some x → x < size t) where
+  module _ (t : ScalarType) (wide : type_width t ≤ 128) (a : Interval) (e : range_at g v ≡ Some a) (up : nonnegative a ≡ true)
+      (inside : inside_type t a ≡ true) (small : ρ.IsSure → (x : ℕ) → value ρ g v ≡ Some x → x < size t) where
     refine_claim : Claim ρ g t (and_then (value ρ g v) (valued t)) (plan.add t (range_at g v) (node.refine v))
     refine_claim = (
       refl,
@@ -187,7 +187,7 @@ module _ {ρ : World} {g : List ℕ} (i : Inv ρ g) (v : ℕ) (l : v < count_of 
     )
 
   -- a value that fits Bits(w)
-  pub fits_small : (w : ℕ) → w ≤ 128 → (a : Interval) → range_at g v ≡ some a → inside_bits w a ≡ true → ρ.IsSure → (x : ℕ) → value ρ g v ≡ some x → x < 2 ^ w
+  pub fits_small : (w : ℕ) → w ≤ 128 → (a : Interval) → range_at g v ≡ Some a → inside_bits w a ≡ true → ρ.IsSure → (x : ℕ) → value ρ g v ≡ Some x → x < 2 ^ w
   fits_small w wide a e f sure x m =
       inside_small (type_at g v) x a (value_pattern i v l x m) (i.ends v l a e) (tests (nonnegative a) _ f).0 (i.ranged v l sure x m a e) w wide f
 

@@ -1,6 +1,6 @@
 -- The plain book of demand 3, and lists of calls played from the empty graph. Document 01's 'The plain book of demand 3'.
 use Rattle.std.specs.Prelude.{Bool, true, cond, ◌&&◌, List, [], ◌∷◌, ◌++◌, ◌≡◌, ℕ, zero, suc, ◌-◌, ◌%◌, ◌^◌, ◌<◌, ◌≤◌, eqb, leb, length, get_or, take, replicate, ℤ}
-use Rattle.std.proofs.Math.Option.{Option, none, some}
+use Rattle.std.specs.Prelude.{Option, None, Some}
 use Rattle.word.specs.Value.{residue, signed}
 use Rattle.word.specs.Option.{from_bool, or_else}
 use Rattle.range.specs.Interval.{Interval, ◌∈◌}
@@ -36,8 +36,8 @@ signed_end z = signed 128 (residue 128 z)
 
 -- a range whose ends are 128-bit numbers
 abbrev pub signed_ends : Option Interval → Option Interval
-signed_ends none = none
-signed_ends (some a) = some (record { low = signed_end a.low; high = signed_end a.high })
+signed_ends None = None
+signed_ends (Some a) = Some (record { low = signed_end a.low; high = signed_end a.high })
 
 -- a value handed in is a 128-bit pattern: a constant's, and the ends of an input's range
 abbrev pub patterned : Request → Request
@@ -63,9 +63,9 @@ request_means ρ look (asks.unary t o v) = unary_means t o (look v).val
 request_means ρ look (asks.binary t o l r) = binary_means t o (look l).val (look r).val
 request_means ρ look (asks.slice v o w) = slice_means (ty.Bits w) o (look v).val
 request_means ρ look (asks.concat h l v w) = concat_means (ty.Bits w) v (look h).val (look l).val
-request_means ρ look (asks.unsigned_range v low high) = and_then (look v).val (λ x. some (from_bool (leb low x && leb x high)))
-request_means ρ look (asks.guard n e) = none
-request_means ρ look (asks.unnamed ws is) = none
+request_means ρ look (asks.unsigned_range v low high) = and_then (look v).val (λ x. Some (from_bool (leb low x && leb x high)))
+request_means ρ look (asks.guard n e) = None
+request_means ρ look (asks.unnamed ws is) = None
 
 -- ---- the book
 
@@ -87,7 +87,7 @@ pub record Book : Type 0 where
 
 -- the value of the first line that has this id and a value
 abbrev pub first : List Line → ℕ → Option ℕ
-first [] n = none
+first [] n = None
 first (l ∷ ls) n = cond (eqb l.id n) (or_else l.val (first ls n)) (first ls n)
 
 -- an id handed in: its node's type, and its line's value, without such a line its node's, in the graph that the call finds
@@ -229,9 +229,9 @@ Unmarked m = (length m ≡ MARKS) × (standing m ≡ 0)
 
 -- a condition holds of the environment
 abbrev pub Met : Env → Condition → Type 0
-Met ρ (input_is n t r) = (ρ.input n < size t) × ((a : Interval) → r ≡ some a → (integer_of t (ρ.input n)) ∈ a)
+Met ρ (input_is n t r) = (ρ.input n < size t) × ((a : Interval) → r ≡ Some a → (integer_of t (ρ.input n)) ∈ a)
 Met ρ (effect_is n t) = ρ.effect n < size t
-Met ρ (holds v e) = v ≡ some (from_bool e)
+Met ρ (holds v e) = v ≡ Some (from_bool e)
 
 -- all conditions hold
 abbrev pub AllMet : Env → List Condition → Type 0
@@ -241,7 +241,7 @@ AllMet ρ (c ∷ cs) = Met ρ c × AllMet ρ cs
 -- a line's id is a node's, and its value, if it has one, is the node's
 pub record Right (ρ : Env) (g : List ℕ) (l : Line) : Type 0 where
   pub here : l.id < count_of g
-  pub means : (v : ℕ) → l.val ≡ some v → value ρ g l.id ≡ some v
+  pub means : (v : ℕ) → l.val ≡ Some v → value ρ g l.id ≡ Some v
 
 -- all lines
 abbrev pub AllRight : Env → List ℕ → List Line → Type 0
@@ -251,8 +251,8 @@ AllRight ρ g (l ∷ ls) = Right ρ g l × AllRight ρ g ls
 -- every line is right, every defined value lies in its node's range, and a node that a retain keeps means what it meant
 pub record Demand3 (ρ : Env) (h : History) : Type 0 where
   pub lines : AllRight ρ h.now.graph h.now.book.lines
-  pub ranges : (n : ℕ) → n < count_of h.now.graph → (v : ℕ) → value ρ h.now.graph n ≡ some v
-      → (a : Interval) → range_at h.now.graph n ≡ some a → (integer_of (type_at h.now.graph n) v) ∈ a
+  pub ranges : (n : ℕ) → n < count_of h.now.graph → (v : ℕ) → value ρ h.now.graph n ≡ Some v
+      → (a : Interval) → range_at h.now.graph n ≡ Some a → (integer_of (type_at h.now.graph n) v) ∈ a
   pub retained : (keep mapping : List ℕ) (k : ℕ) → (retain_call h.now.graph h.marks keep mapping).retention.outcome ≡ retaining.kept k
       → (n : ℕ) → n < count_of h.now.graph → keeps keep n ≡ true
       → value ρ (retain_call h.now.graph h.marks keep mapping).retention.words (renumbered keep n) ≡ value ρ h.now.graph n

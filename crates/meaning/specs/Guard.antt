@@ -1,6 +1,6 @@
 -- What a guard is to say of its condition.
 use Rattle.std.specs.Prelude.{Bool, true, List, ◌↔◌, ◌≡◌, ℕ}
-use Rattle.std.proofs.Math.Option.{some}
+use Rattle.std.specs.Prelude.{Some}
 use Rattle.word.specs.Option.{from_bool}
 use Rattle.range.specs.Interval.{Interval, ◌∈◌}
 use Rattle.range.specs.declared.ScalarType.TheVariants as ty
@@ -15,10 +15,10 @@ BoolsBehind g n e = (k : ℕ) → type_at g (behind g k n e).node ≡ ty.Bool
 
 -- a value lies in its node's range, if the node has one
 abbrev pub InRange : List ℕ → ℕ → ℕ → Type 0
-InRange g n x = (a : Interval) → range_at g n ≡ some a → (integer_of (type_at g n) x) ∈ a
+InRange g n x = (a : Interval) → range_at g n ≡ Some a → (integer_of (type_at g n) x) ∈ a
 
 -- two values match a guard, or do not, and they match it exactly if the condition is as expected
 pub record Decides (ρ : Env) (g : List ℕ) (condition : ℕ) (e : Bool) (q : Guard) (x y : ℕ) : Type 0 where
   pub answer : Bool
-  pub matches : matched q x y ≡ some answer
-  pub exactly : (answer ≡ true) ↔ (value ρ g condition ≡ some (from_bool e))
+  pub matches : matched q x y ≡ Some answer
+  pub exactly : (answer ≡ true) ↔ (value ρ g condition ≡ Some (from_bool e))

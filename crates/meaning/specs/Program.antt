@@ -1,6 +1,6 @@
 -- Records one after another, as the program reads them: what they print and leave, and the calls that they name.
 use Rattle.std.specs.Prelude.{Bool, false, cond, not, ◌||◌, List, [], ◌∷◌, ◌++◌, ◌≡◌, ℕ, replicate}
-use Rattle.std.proofs.Math.Option.{Option, none, some}
+use Rattle.std.specs.Prelude.{Option, None, Some}
 use Rattle.word.specs.Option.{is_some}
 use Rattle.graph.specs.Layout.{REGION}
 use Rattle.native.specs.Perform.{request_call}
@@ -52,8 +52,8 @@ call_of (records.retain keep) = retain keep keep
 
 -- the call of a record, if it is no bad one
 abbrev pub with_call : Option Asked → List Action → List Action
-with_call none calls = calls
-with_call (some a) calls = call_of a ∷ calls
+with_call None calls = calls
+with_call (Some a) calls = call_of a ∷ calls
 
 -- the calls of records, the latest first, up to a bad one
 unfoldable pub calls_of : List (List ℕ) → List Action

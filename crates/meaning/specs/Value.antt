@@ -1,6 +1,6 @@
 -- What a node means: its value, where each input and each effect has one. Document 01's 'Typing table' paragraph.
 use Rattle.std.specs.Prelude.{List, [], ◌∷◌, ◌++◌, ℕ, zero, suc, ◌^◌, ltb, ℤ, pos, get_or}
-use Rattle.std.proofs.Math.Option.{Option, none, some}
+use Rattle.std.specs.Prelude.{Option, None, Some}
 use Rattle.word.specs.Value.{signed}
 use Rattle.word.specs.Option.{only}
 use Rattle.range.specs.declared.ScalarType.{ScalarType}
@@ -38,8 +38,8 @@ valued t v = of_type t (reduced t v)
 
 -- what follows a value, undefined if it is
 abbrev pub and_then : Option ℕ → (ℕ → Option ℕ) → Option ℕ
-and_then none f = none
-and_then (some v) f = f v
+and_then None f = None
+and_then (Some v) f = f v
 
 -- ---- the plain operations, on values that may be undefined
 
@@ -81,7 +81,7 @@ operation_means ρ t (node.binary b i j) look = binary_means t b (look i).val (l
 
 -- the operand of an id that no node below has
 abbrev pub missing : Operand
-missing = record { type = ty.Bool; val = none }
+missing = record { type = ty.Bool; val = None }
 
 -- the first m nodes as operands
 unfoldable pub operands : Env → List ℕ → ℕ → List Operand

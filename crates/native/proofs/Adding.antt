@@ -2,7 +2,7 @@
 use mathlib.Core.Path.{◌≡◌, refl, sym, ap, subst}
 use mathlib.Core.Bool.{Bool, true, false, not, ◌&&◌, false≢true}
 use mathlib.Core.List.{List}
-use mathlib.Core.Option.{Option, none, some}
+use Rattle.std.specs.Prelude.{Option, None, Some}
 use Prim.Native.Nat.{ℕ, ◌-◌}
 use native.Mathlib.Omega.{arith}
 use lib.Dec.{eqb}
@@ -32,9 +32,9 @@ use Rattle.native.specs.Perform.{UNITS, leaf_out, builder_out}
 
 -- ---- tests
 
-no_fact : {A : Type 0} (o : Option A) → not (is_some o) ≡ true → o ≡ none
-no_fact none e = refl
-no_fact (some a) e = absurd (false≢true e)
+no_fact : {A : Type 0} (o : Option A) → not (is_some o) ≡ true → o ≡ None
+no_fact None e = refl
+no_fact (Some a) e = absurd (false≢true e)
 
 left_test : (s t : Bool) → s && t ≡ true → s ≡ true
 left_test true t e = refl
@@ -48,7 +48,7 @@ no_test : (s : Bool) → not s ≡ true → s ≡ false
 no_test true e = sym e
 no_test false e = refl
 
-nothing-provided : {A : Type 0} (s : Bool) (o : Option A) → not (s && is_some o) ≡ true → provided s o ≡ none
+nothing-provided : {A : Type 0} (s : Bool) (o : Option A) → not (s && is_some o) ≡ true → provided s o ≡ None
 nothing-provided true o e = no_fact o e
 nothing-provided false o e = refl
 
@@ -91,7 +91,7 @@ module _ (full : Refusal) (g : List ℕ) (t : ScalarType) (o : Unary) (v : ℕ) 
   abbrev n : ℕ
   n = resolve g v
 
-  unary_by : (b : Bool) → is_reduction t o ≡ b → literal g n ≡ none → not (same_type t (ty.Bits (unary_width o)) && not (is_stop (modular_plan g n (unary_width o)))) ≡ true
+  unary_by : (b : Bool) → is_reduction t o ≡ b → literal g n ≡ None → not (same_type t (ty.Bits (unary_width o)) && not (is_stop (modular_plan g n (unary_width o)))) ≡ true
       → unary_plan g t o n ≡ plan.add s q p → builder_out full (build (unary t o v) UNITS g) ≡ leaf_out full (inserted g s q p)
   unfolding unary_first rest_plan
   unary_by true r l h e =
@@ -111,7 +111,7 @@ module _ (full : Refusal) (g : List ℕ) (t : ScalarType) (o : Unary) (v : ℕ) 
 
 -- ---- binary
 
-no_shift : (g : List ℕ) (t : ScalarType) (o : Binary) (n : ℕ) (b : Option ℕ) → is_any shifts o ≡ false → shift_plan g t o n b ≡ none
+no_shift : (g : List ℕ) (t : ScalarType) (o : Binary) (n : ℕ) (b : Option ℕ) → is_any shifts o ≡ false → shift_plan g t o n b ≡ None
 no_shift g ty.Bool o n b e = refl
 no_shift g (ty.Bits w) o n b e = rw e
 no_shift g ty.Integer o n b e = refl
@@ -123,7 +123,7 @@ module _ (full : Refusal) (g : List ℕ) (t : ScalarType) (o : Binary) (l r : �
   abbrev b : ℕ
   b = resolve g r
 
-  binary-does : literal g a ≡ none → is_any shifts o ≡ false → provided (is_any equalities o) (fold_masked_comparison g o a b) ≡ none
+  binary-does : literal g a ≡ None → is_any shifts o ≡ false → provided (is_any equalities o) (fold_masked_comparison g o a b) ≡ None
       → binary_first g t o a b ≡ does (binary_plan g t o a b)
   unfolding binary_first
   binary-does x y z = rw (x, no_shift g t o a (literal g b) y, z)
@@ -150,7 +150,7 @@ module _ (full : Refusal) (g : List ℕ) (v o w : ℕ) (s : ScalarType) (q : Opt
   abbrev m : ℕ
   m = resolve g v
 
-  slice_by : (b : Bool) → eqb o 0 ≡ b → literal g m ≡ none → not (eqb o 0 && not (is_stop (modular_plan g m w))) ≡ true
+  slice_by : (b : Bool) → eqb o 0 ≡ b → literal g m ≡ None → not (eqb o 0 && not (is_stop (modular_plan g m w))) ≡ true
       → slice_plan g m o w ≡ plan.add s q p → builder_out full (build (slice v o w) UNITS g) ≡ leaf_out full (inserted g s q p)
   unfolding slice_first rest_plan
   slice_by true r l h e = tries_added full g s q p (slice v o w) m w (slice_rest m o w) (rw (l, r)) (has_none _ _ h r) e

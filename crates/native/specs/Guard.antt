@@ -1,6 +1,6 @@
 -- The call guard, which reads: a guard, None, or a refusal.
 use Rattle.std.specs.Prelude.{Bool, cond, List, ℕ}
-use Rattle.std.proofs.Math.Option.{Option, none, some}
+use Rattle.std.specs.Prelude.{Option, None, Some}
 use Rattle.range.specs.declared.ScalarType.TheVariants as ty
 use Rattle.answer.specs.declared.Refusal.{Refusal}
 use Rattle.answer.specs.declared.Refusal.TheVariants as no
@@ -26,8 +26,8 @@ reading_of (answer.Refused r) = refused r
 
 -- a guard, or None where there is none
 abbrev pub answered : Option Guard → Reading
-answered none = nothing
-answered (some q) = guard q
+answered None = nothing
+answered (Some q) = guard q
 
 -- guard on a graph: question 3, question 4 (the condition is Bool), then the work
 unfoldable pub guard_in_graph : List ℕ → ℕ → Bool → Reading

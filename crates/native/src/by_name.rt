@@ -11,7 +11,7 @@ use crate::Answer;
 use crate::perform::{call, call_in_graph};
 use evaluate::{Binary, Unary};
 use graph::{EffectId, InputId, NodeId};
-use range::{MaybeRange, ScalarType};
+use range::ScalarType;
 use request::Request;
 use word::Word;
 
@@ -28,14 +28,14 @@ pub fn constant(g: &mut [u64], ty: ScalarType, value: Word) -> Answer
     call(g, Request::Constant(value, ty))
 }
 
-pub fn input_in_graph(g: &mut [u64], id: InputId, ty: ScalarType, range: MaybeRange) -> Answer
+pub fn input_in_graph(g: &mut [u64], id: InputId, ty: ScalarType, range: Option<Range>) -> Answer
     requires { is_graph g.old ≡ true }
     ensures { called (answer_of result) g.new ≡ request_in_graph g.old (asked.input id.0 ty (interval_of range)) }
 {
     call_in_graph(g, Request::Input(id, range, ty))
 }
 
-pub fn input(g: &mut [u64], id: InputId, ty: ScalarType, range: MaybeRange) -> Answer
+pub fn input(g: &mut [u64], id: InputId, ty: ScalarType, range: Option<Range>) -> Answer
     ensures { called (answer_of result) g.new ≡ request_call g.old (asked.input id.0 ty (interval_of range)) }
 {
     call(g, Request::Input(id, range, ty))

@@ -19,7 +19,6 @@ ghost use Rattle.native.specs.Perform.{UNITS, builder_out};
 use crate::Answer;
 use crate::perform::{full_budget, settle};
 use answer::Refusal;
-use bitfield::MaybeMasked;
 use bitfield::equality::fold_masked_comparison;
 use evaluate::{Binary, Unary};
 use fold::operator::{is_equality, is_folded_shift};
@@ -80,8 +79,8 @@ fn is_masked(g: &[u64], op: Binary, left: NodeId, right: NodeId) -> bool
     }
     let comparison = fold_masked_comparison(g, op, left, right);
     match comparison {
-        MaybeMasked::Some(_) => true,
-        MaybeMasked::None => false,
+        Some(_) => true,
+        None => false,
     }
 }
 

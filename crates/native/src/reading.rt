@@ -14,9 +14,8 @@ use graph::layout::count;
 use graph::read::type_at;
 use graph::well_formed::is_graph;
 use graph::{NodeId, read};
-use guard::{MaybeGuard, guarded};
+use guard::guarded;
 use range::ScalarType;
-use word::MaybeWord;
 
 // The value of a constant, or None.
 pub fn literal_in_graph(g: &[u64], id: NodeId) -> Evaluated
@@ -26,8 +25,8 @@ pub fn literal_in_graph(g: &[u64], id: NodeId) -> Evaluated
     if id.0 < count(g) {
         let value = read::literal(g, id);
         match value {
-            MaybeWord::Some(found) => Evaluated::Value(found),
-            MaybeWord::None => Evaluated::None,
+            Some(found) => Evaluated::Value(found),
+            None => Evaluated::None,
         }
     } else {
         Evaluated::Refused(Refusal::Id)
@@ -75,8 +74,8 @@ pub fn guard_in_graph(g: &[u64], condition: NodeId, expected: bool) -> Guarded
         if same_type(type_at(g, condition), ScalarType::Bool) {
             let found = guarded::guarded(g, condition, expected);
             match found {
-                MaybeGuard::Some(guard) => Guarded::Some(guard),
-                MaybeGuard::None => Guarded::None,
+                Some(guard) => Guarded::Some(guard),
+                None => Guarded::None,
             }
         } else {
             Guarded::Refused(Refusal::Typing)

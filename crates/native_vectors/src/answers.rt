@@ -2,7 +2,7 @@
 ghost use Rattle.std.specs.Prelude.{◌≡◌, ◌+◌, ◌≤◌, length};
 
 use crate::calls::{Outcome, Reply, perform};
-use crate::lines::{MaybeFields, fields_of};
+use crate::lines::fields_of;
 use crate::region::sums_of;
 use text::put_text_in_room;
 use vector_lines::put_word_in_room;
@@ -99,7 +99,7 @@ pub(crate) fn put_answer_to(line: &[u8], words: &mut [u64], out: &mut [u8]) -> u
     ensures { result ≤ 72 }
 {
     let read = fields_of(line);
-    let MaybeFields::Some(call) = read else {
+    let Some(call) = read else {
         return 0;
     };
     let outcome = perform(words, call);

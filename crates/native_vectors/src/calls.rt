@@ -3,25 +3,18 @@
 use crate::guards::guarded;
 use crate::lines::Fields;
 use crate::region::{peek, poke, zero};
-use crate::retains::{MaybeReply, retained};
+use crate::retains::retained;
 use evaluate::Evaluated;
 use evaluate::code::{BITS, BOOL, INTEGER, binary_of, unary_of};
 use graph::layout::REGION;
 use graph::well_formed::is_graph;
 use graph::{EffectId, InputId, NodeId};
 use native::{Answer, by_name, reading};
-use range::{MaybeRange, Range, ScalarType};
+use range::{Range, ScalarType};
 use word::Word;
 
 // The last word from which four can be asked for.
 const LAST: u64 = (REGION - 3) as u64;
-
-// A type by its code, if there is one.
-#[derive(Clone, Copy)]
-enum MaybeType {
-    Some(ScalarType),
-    None,
-}
 
 // What a call answers.
 #[derive(Clone, Copy)]
@@ -46,20 +39,20 @@ pub(crate) enum Outcome {
     Malformed,
 }
 
-fn type_of(code: u64, width: u16) -> MaybeType {
+fn type_of(code: u64, width: u16) -> Option<ScalarType> {
     match code {
-        BOOL => MaybeType::Some(ScalarType::Bool),
-        BITS => MaybeType::Some(ScalarType::Bits(width)),
-        INTEGER => MaybeType::Some(ScalarType::Integer),
-        _ => MaybeType::None,
+        BOOL => Some(ScalarType::Bool),
+        BITS => Some(ScalarType::Bits(width)),
+        INTEGER => Some(ScalarType::Integer),
+        _ => None,
     }
 }
 
-fn range_of(flag: u64, min: Word, max: Word) -> MaybeRange {
+fn range_of(flag: u64, min: Word, max: Word) -> Option<Range> {
     if flag == 0 {
-        return MaybeRange::None;
+        return None;
     }
-    MaybeRange::Some(Range {
+    Some(Range {
         min: min.as_signed(),
         max: max.as_signed(),
     })
@@ -89,7 +82,7 @@ pub(crate) fn of_bool(is: bool) -> Reply {
 // The calls that declare a leaf.
 fn declared(g: &mut [u64], call: Fields) -> Outcome {
     let named = type_of(call.type_code, call.width);
-    let MaybeType::Some(ty) = named else {
+    let Some(ty) = named else {
         return Outcome::Malformed;
     };
     let kind = call.kind;
@@ -108,7 +101,7 @@ fn declared(g: &mut [u64], call: Fields) -> Outcome {
 // An operator by its code: Add for a code that there is not, as a region reads it.
 fn operated(g: &mut [u64], call: Fields) -> Outcome {
     let named = type_of(call.type_code, call.width);
-    let MaybeType::Some(ty) = named else {
+    let Some(ty) = named else {
         return Outcome::Malformed;
     };
     let a = call.a;
@@ -145,8 +138,8 @@ fn parted(g: &mut [u64], call: Fields) -> Outcome {
 fn kept(words: &mut [u64], call: Fields) -> Outcome {
     let answer = retained(words, call);
     match answer {
-        MaybeReply::Some(reply) => Outcome::Answered(reply),
-        MaybeReply::None => Outcome::Malformed,
+        Some(reply) => Outcome::Answered(reply),
+        None => Outcome::Malformed,
     }
 }
 

@@ -1,7 +1,7 @@
 // The text of a call: hex digits of its kind (2), the region's length (4), a number (16), a type (2), a width (4), a flag (2)
 // and two words (32 each), with a space after each field and a line end after the last.
 use vector_lines::{Number, number_of, word_of};
-use word::{MaybeWord, Word};
+use word::Word;
 
 // The fields of a call. What its kind does not use is not looked at.
 #[derive(Clone, Copy)]
@@ -16,12 +16,6 @@ pub(crate) struct Fields {
     pub b: Word,
 }
 
-#[derive(Clone, Copy)]
-pub(crate) enum MaybeFields {
-    Some(Fields),
-    None,
-}
-
 // The fields but the operands.
 #[derive(Clone, Copy)]
 struct Numbers {
@@ -31,12 +25,6 @@ struct Numbers {
     type_code: u64,
     width: u16,
     flag: u64,
-}
-
-#[derive(Clone, Copy)]
-enum MaybeNumbers {
-    Some(Numbers),
-    None,
 }
 
 // Hex digits and a space.
@@ -52,40 +40,40 @@ fn field_of(text: &[u8]) -> Number {
 }
 
 // 32 hex digits and what stands after them.
-fn operand_of(text: &[u8], after: u8) -> MaybeWord {
+fn operand_of(text: &[u8], after: u8) -> Option<Word> {
     if text.len() != 33 {
-        return MaybeWord::None;
+        return None;
     }
     if text[32] != after {
-        return MaybeWord::None;
+        return None;
     }
     word_of(&text[0..32])
 }
 
 // The numbers before the operands.
-fn numbers_of(text: &[u8]) -> MaybeNumbers {
+fn numbers_of(text: &[u8]) -> Option<Numbers> {
     if text.len() != 36 {
-        return MaybeNumbers::None;
+        return None;
     }
     let Number::Value(kind) = field_of(&text[0..3]) else {
-        return MaybeNumbers::None;
+        return None;
     };
     let Number::Value(len) = field_of(&text[3..8]) else {
-        return MaybeNumbers::None;
+        return None;
     };
     let Number::Value(number) = field_of(&text[8..25]) else {
-        return MaybeNumbers::None;
+        return None;
     };
     let Number::Value(type_code) = field_of(&text[25..28]) else {
-        return MaybeNumbers::None;
+        return None;
     };
     let Number::Value(width) = field_of(&text[28..33]) else {
-        return MaybeNumbers::None;
+        return None;
     };
     let Number::Value(flag) = field_of(&text[33..36]) else {
-        return MaybeNumbers::None;
+        return None;
     };
-    MaybeNumbers::Some(Numbers {
+    Some(Numbers {
         kind: kind,
         len: len,
         number: number,
@@ -95,20 +83,20 @@ fn numbers_of(text: &[u8]) -> MaybeNumbers {
     })
 }
 
-pub(crate) fn fields_of(line: &[u8]) -> MaybeFields {
+pub(crate) fn fields_of(line: &[u8]) -> Option<Fields> {
     if line.len() != 102 {
-        return MaybeFields::None;
+        return None;
     }
-    let MaybeNumbers::Some(numbers) = numbers_of(&line[0..36]) else {
-        return MaybeFields::None;
+    let Some(numbers) = numbers_of(&line[0..36]) else {
+        return None;
     };
-    let MaybeWord::Some(a) = operand_of(&line[36..69], b' ') else {
-        return MaybeFields::None;
+    let Some(a) = operand_of(&line[36..69], b' ') else {
+        return None;
     };
-    let MaybeWord::Some(b) = operand_of(&line[69..102], b'\n') else {
-        return MaybeFields::None;
+    let Some(b) = operand_of(&line[69..102], b'\n') else {
+        return None;
     };
-    MaybeFields::Some(Fields {
+    Some(Fields {
         kind: numbers.kind,
         len: numbers.len,
         number: numbers.number,

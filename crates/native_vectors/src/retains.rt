@@ -12,12 +12,6 @@ const ROOM: u64 = 256;
 // Where the mapping stands among the words held.
 const MAPPING: u64 = 6146;
 
-#[derive(Clone, Copy)]
-pub(crate) enum MaybeReply {
-    Some(Reply),
-    None,
-}
-
 fn keep_bits(keep: &mut [u8], a: Word, b: Word) {
     let mut i = 0;
     while i < keep.len() {
@@ -66,15 +60,15 @@ fn retained_parts(
     kept: usize,
     mapping: &mut [u64],
     mapped: usize,
-) -> MaybeReply {
+) -> Option<Reply> {
     if words.len() < len || keep.len() < kept {
-        return MaybeReply::None;
+        return None;
     }
     if mapping.len() < mapped {
-        return MaybeReply::None;
+        return None;
     }
     let answer = retain_unmarked(&mut words[0..len], &keep[0..kept], &mut mapping[0..mapped]);
-    MaybeReply::Some(of_retained(answer))
+    Some(of_retained(answer))
 }
 
 fn retained_in(
@@ -82,7 +76,7 @@ fn retained_in(
     call: Fields,
     keep: &mut [u8],
     mapping: &mut [u64],
-) -> MaybeReply {
+) -> Option<Reply> {
     let number = call.number;
     keep_bits(keep, call.a, call.b);
     keep_special(keep, number / 65536, call.flag);
@@ -100,7 +94,7 @@ fn retained_in(
     reply
 }
 
-pub(crate) fn retained(words: &mut [u64], call: Fields) -> MaybeReply {
+pub(crate) fn retained(words: &mut [u64], call: Fields) -> Option<Reply> {
     let mut keep = [0u8; 256];
     let mut mapping = [0u64; 256];
     retained_in(words, call, &mut keep, &mut mapping)

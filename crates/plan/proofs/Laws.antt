@@ -2,7 +2,7 @@
 use mathlib.Core.Path.{◌≡◌, refl}
 use mathlib.Core.Bool.{true, false, false≢true}
 use mathlib.Core.List.{List}
-use mathlib.Core.Option.{none, some}
+use Rattle.std.specs.Prelude.{None, Some}
 use Prim.Native.Nat.{ℕ, zero, suc}
 use Rattle.range.specs.declared.ScalarType.{ScalarType}
 use Rattle.graph.specs.Node.{type_at}
@@ -14,14 +14,14 @@ use Rattle.plan.specs.Plan.{Plan, stop, plan_of, is_stop}
 use Rattle.plan.specs.OneOperand.{same, source, view_from}
 
 module _ (g : List ℕ) (n : ℕ) where
-  pub view_end : (t : ScalarType) (k : ℕ) → refined_at g n ≡ none → view_from g t k n ≡ source n
+  pub view_end : (t : ScalarType) (k : ℕ) → refined_at g n ≡ None → view_from g t k n ≡ source n
   view_end t zero e = refl
   view_end t (suc k) e = rw e
 
-  pub view_same : (t : ScalarType) (k j p : ℕ) → k ≡ suc j → refined_at g n ≡ some p → same_type (type_at g p) t ≡ true → view_from g t k n ≡ same p
+  pub view_same : (t : ScalarType) (k j p : ℕ) → k ≡ suc j → refined_at g n ≡ Some p → same_type (type_at g p) t ≡ true → view_from g t k n ≡ same p
   view_same t k j p h e f = rw (h, e, f)
 
-  pub view_on : (t : ScalarType) (k j p : ℕ) → k ≡ suc j → refined_at g n ≡ some p → same_type (type_at g p) t ≡ false
+  pub view_on : (t : ScalarType) (k j p : ℕ) → k ≡ suc j → refined_at g n ≡ Some p → same_type (type_at g p) t ≡ false
       → view_from g t k n ≡ view_from g t j p
   view_on t k j p h e f = rw (h, e, f)
 

@@ -1,6 +1,6 @@
 -- The plans of identity, unary and modular.
 use Rattle.std.specs.Prelude.{Bool, true, false, cond, ◌&&◌, ◌||◌, List, ℕ, zero, suc, ◌-◌, eqb, ltb, leb}
-use Rattle.std.proofs.Math.Option.{Option, none, some}
+use Rattle.std.specs.Prelude.{Option, None, Some}
 use Rattle.word.specs.Option.{given}
 use Rattle.range.specs.Interval.{Interval}
 use Rattle.range.specs.declared.ScalarType.{ScalarType}
@@ -59,8 +59,8 @@ is_view (un.TrailingZeros w) t r = false
 
 -- a node with its range, or None
 abbrev pub add_or : ScalarType → Option (Option Interval) → Op → Plan
-add_or t none o = plan.stop
-add_or t (some r) o = plan.add t r o
+add_or t None o = plan.stop
+add_or t (Some r) o = plan.add t r o
 
 -- unary after modular: the value itself, or a node
 unfoldable pub unary_plan : List ℕ → ScalarType → Unary → ℕ → Plan

@@ -1,6 +1,6 @@
 -- What a builder does next: a plan, or first a fold that may come to nothing.
 use Rattle.std.specs.Prelude.{Bool, true, false, ℕ}
-use Rattle.std.proofs.Math.Option.{Option, none, some}
+use Rattle.std.specs.Prelude.{Option, None, Some}
 use Rattle.word.specs.Value.{val}
 use Rattle.range.specs.Interval.{Interval, interval_of}
 use Rattle.range.specs.declared.ScalarType.{ScalarType}
@@ -14,8 +14,6 @@ use Rattle.plan.specs.declared.Attempt as declared-attempt
 use Rattle.plan.specs.declared.Attempt.TheVariants as attempt
 use Rattle.plan.specs.declared.Rest as declared-rest
 use Rattle.plan.specs.declared.Rest.TheVariants as rest
-use Rattle.plan.specs.declared.MaybePlan as declared-decided
-use Rattle.plan.specs.declared.MaybePlan.TheVariants as decided
 use Rattle.plan.specs.declared.First as declared-first
 use Rattle.plan.specs.declared.First.TheVariants as first
 
@@ -114,12 +112,12 @@ abbrev pub first_of : declared-first.First → First
 first_of (first.Do p) = does (plan_of p)
 first_of (first.Try a r) = tries (attempt_of a) (rest_of r)
 
--- what a MaybePlan stands for
-abbrev pub decided_of : declared-decided.MaybePlan → Option Plan
-decided_of (decided.Some p) = some (plan_of p)
-decided_of decided.None = none
+-- what a Option Plan stands for
+abbrev pub decided_of : Option declared.Plan → Option Plan
+decided_of (Some p) = Some (plan_of p)
+decided_of None = None
 
 -- a constant, or None without a value
 abbrev pub constant_or : ScalarType → Option ℕ → Plan
-constant_or t none = stop
-constant_or t (some v) = constant t v
+constant_or t None = stop
+constant_or t (Some v) = constant t v

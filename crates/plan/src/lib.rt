@@ -6,7 +6,7 @@ pub mod one_operand;
 use bitfield::Masked;
 use evaluate::{Binary, Unary};
 use graph::{NodeId, Operation};
-use range::{MaybeRange, ScalarType};
+use range::ScalarType;
 use word::Word;
 
 // What a builder does next. Offsets are u64, so that no sum of them is too large.
@@ -16,7 +16,7 @@ pub enum Plan {
     // The Rust's None.
     None,
     Constant(Word, ScalarType),
-    Add(MaybeRange, Operation, ScalarType),
+    Add(Option<Range>, Operation, ScalarType),
     Identity(NodeId, ScalarType),
     Unary(NodeId, ScalarType, Unary),
     Binary(NodeId, NodeId, ScalarType, Binary),
@@ -33,12 +33,6 @@ pub enum Plan {
     Truncated(NodeId, NodeId, u16, Binary),
     // A slice of the low node at an offset and width, one of the high node at 0 and a width, and their concat.
     SplitConcat(NodeId, NodeId, u64, u16, u16, u16),
-}
-
-#[derive(Clone, Copy)]
-pub enum MaybePlan {
-    Some(Plan),
-    None,
 }
 
 // A fold that may come to None, after which its builder goes on.

@@ -14,15 +14,13 @@ use evaluate::one_operand::unary_value;
 use fold::new_range::unary_range;
 use fold::operator::is_modular;
 use fold::shape::{fits, is_not_negative, refined_at, same_type};
-use fold::{Derived, MaybeId};
 use graph::layout::LIMIT;
 use graph::read::{literal, operation_at, range_at, resolve, type_at};
 use graph::{NodeId, Operation};
-use range::{MaybeRange, ScalarType};
-use word::MaybeWord;
+use range::ScalarType;
 
 // A value seen at another type.
-fn view_plan(ty: ScalarType, range: MaybeRange, value: NodeId) -> Plan
+fn view_plan(ty: ScalarType, range: Option<Range>, value: NodeId) -> Plan
     ensures { plan_of result ≡ view_plan ty (interval_of range) value.0 }
 {
     let view = Plan::Add(range, Operation::Refine(value), ty);
@@ -75,7 +73,7 @@ fn is_reduction(ty: ScalarType, op: Unary) -> bool
 }
 
 // Does the operator leave a value of this type and range as it is?
-fn is_view(op: Unary, ty: ScalarType, range: MaybeRange) -> bool
+fn is_view(op: Unary, ty: ScalarType, range: Option<Range>) -> bool
     ensures { result ≡ is_view op ty (interval_of range) }
 {
     match op {
@@ -101,22 +99,22 @@ fn is_view(op: Unary, ty: ScalarType, range: MaybeRange) -> bool
 }
 
 // A node with its range, or None.
-pub(crate) fn add_or_none(ty: ScalarType, derived: Derived, operation: Operation) -> Plan
+pub(crate) fn add_or_none(ty: ScalarType, derived: Option<Option<Range>>, operation: Operation) -> Plan
     ensures { plan_of result ≡ add_or ty (derived_of derived) (op_of operation) }
 {
     match derived {
-        Derived::Some(range) => Plan::Add(range, operation, ty),
-        Derived::None => Plan::None,
+        Some(range) => Plan::Add(range, operation, ty),
+        None => Plan::None,
     }
 }
 
 // A constant, or None without a value.
-pub fn constant_or_none(ty: ScalarType, value: MaybeWord) -> Plan
+pub fn constant_or_none(ty: ScalarType, value: Option<Word>) -> Plan
     ensures { plan_of result ≡ constant_or ty (number_of value) }
 {
     match value {
-        MaybeWord::Some(constant) => Plan::Constant(constant, ty),
-        MaybeWord::None => Plan::None,
+        Some(constant) => Plan::Constant(constant, ty),
+        None => Plan::None,
     }
 }
 
@@ -151,8 +149,8 @@ pub fn unary_first(g: &[u64], ty: ScalarType, op: Unary, value: NodeId) -> First
 {
     let known = literal(g, value);
     match known {
-        MaybeWord::Some(constant) => First::Do(constant_or_none(ty, unary_value(op, constant))),
-        MaybeWord::None => unary_open(g, ty, op, value),
+        Some(constant) => First::Do(constant_or_none(ty, unary_value(op, constant))),
+        None => unary_open(g, ty, op, value),
     }
 }
 
@@ -165,7 +163,7 @@ fn view_at(g: &[u64], ty: ScalarType, id: NodeId) -> View
     let mut left = LIMIT;
     while 0 < left {
         let source = refined_at(g, NodeId(at));
-        let MaybeId::Some(previous) = source else {
+        let Some(previous) = source else {
             return View::Source(NodeId(at));
         };
         if same_type(type_at(g, previous), ty) {

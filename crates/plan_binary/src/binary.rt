@@ -13,7 +13,6 @@ ghost use Rattle.plan_binary.specs.Binary.{is_swapped, evaluated, compared_plan,
 
 use crate::constant_right::{literal_plan, offset_plan, sum_plan};
 use crate::shift::shift_plan;
-use bitfield::MaybeMasked;
 use bitfield::equality::fold_masked_comparison;
 use evaluate::Binary;
 use evaluate::pattern::from_bool;
@@ -24,16 +23,15 @@ use fold::operator::{
     is_commutative, is_equality, is_false_twice, is_kept_twice, is_true_twice, is_zero_twice,
 };
 use fold::shape::is_some;
-use fold::{Derived, MaybeBool};
 use graph::read::{literal, range_at};
 use graph::{NodeId, Operation};
 use plan::one_operand::constant_or_none;
-use plan::{Attempt, First, MaybePlan, Plan, Rest};
-use range::{MaybeRange, ScalarType};
-use word::{MaybeWord, Word};
+use plan::{Attempt, First, Plan, Rest};
+use range::ScalarType;
+use word::Word;
 
 // Does a constant on the left go to the right?
-fn is_swapped(op: Binary, left: MaybeWord, right: MaybeWord) -> bool
+fn is_swapped(op: Binary, left: Option<Word>, right: Option<Word>) -> bool
     ensures { result ≡ is_swapped op (number_of left) (number_of right) }
 {
     if is_some(left) && !is_some(right) {
@@ -43,47 +41,47 @@ fn is_swapped(op: Binary, left: MaybeWord, right: MaybeWord) -> bool
 }
 
 // Two constants are evaluated.
-fn evaluated(ty: ScalarType, op: Binary, left: MaybeWord, right: MaybeWord) -> MaybePlan
+fn evaluated(ty: ScalarType, op: Binary, left: Option<Word>, right: Option<Word>) -> Option<Plan>
     ensures { decided_of result ≡ evaluated ty op (number_of left) (number_of right) }
 {
-    let MaybeWord::Some(a) = left else {
-        return MaybePlan::None;
+    let Some(a) = left else {
+        return None;
     };
-    let MaybeWord::Some(b) = right else {
-        return MaybePlan::None;
+    let Some(b) = right else {
+        return None;
     };
-    MaybePlan::Some(constant_or_none(ty, binary_value(op, ty, a, b)))
+    Some(constant_or_none(ty, binary_value(op, ty, a, b)))
 }
 
 // A comparison that the ranges decide.
-fn compared_plan(op: Binary, left: MaybeRange, right: MaybeRange) -> MaybePlan
+fn compared_plan(op: Binary, left: Option<Range>, right: Option<Range>) -> Option<Plan>
     ensures { decided_of result ≡ compared_plan op (interval_of left) (interval_of right) }
 {
     let known = compared(op, left, right);
     match known {
-        MaybeBool::Some(value) => truth(value),
-        MaybeBool::None => MaybePlan::None,
+        Some(value) => truth(value),
+        None => None,
     }
 }
 
-fn truth(value: bool) -> MaybePlan
+fn truth(value: bool) -> Option<Plan>
     ensures { decided_of result ≡ some (plan.constant type.Bool (from_bool value)) }
 {
-    MaybePlan::Some(Plan::Constant(from_bool(value), ScalarType::Bool))
+    Some(Plan::Constant(from_bool(value), ScalarType::Bool))
 }
 
-fn zero(ty: ScalarType) -> MaybePlan
+fn zero(ty: ScalarType) -> Option<Plan>
     ensures { decided_of result ≡ some (plan.constant ty 0) }
 {
-    MaybePlan::Some(Plan::Constant(Word { lo: 0, hi: 0 }, ty))
+    Some(Plan::Constant(Word { lo: 0, hi: 0 }, ty))
 }
 
 // One node with itself.
-fn with_itself(ty: ScalarType, op: Binary, id: NodeId) -> MaybePlan
+fn with_itself(ty: ScalarType, op: Binary, id: NodeId) -> Option<Plan>
     ensures { decided_of result ≡ with_itself ty op id.0 }
 {
     if is_kept_twice(op) {
-        return MaybePlan::Some(Plan::Identity(id, ty));
+        return Some(Plan::Identity(id, ty));
     }
     if is_zero_twice(op) {
         return zero(ty);
@@ -94,35 +92,35 @@ fn with_itself(ty: ScalarType, op: Binary, id: NodeId) -> MaybePlan
     if is_false_twice(op) {
         return truth(false);
     }
-    MaybePlan::None
+    None
 }
 
-fn with_itself_plan(ty: ScalarType, op: Binary, left: NodeId, right: NodeId) -> MaybePlan
+fn with_itself_plan(ty: ScalarType, op: Binary, left: NodeId, right: NodeId) -> Option<Plan>
     ensures { decided_of result ≡ provided (eqb left.0 right.0) (with_itself ty op left.0) }
 {
     if left.0 == right.0 {
         with_itself(ty, op, left)
     } else {
-        MaybePlan::None
+        None
     }
 }
 
 // The decisions before the range of the node is known.
-fn decided_plan(g: &[u64], ty: ScalarType, op: Binary, left: NodeId, right: NodeId) -> MaybePlan
+fn decided_plan(g: &[u64], ty: ScalarType, op: Binary, left: NodeId, right: NodeId) -> Option<Plan>
     requires { length g.now ≡ REGION }
     ensures { decided_of result ≡ decided_plan g.now ty op left.0 right.0 }
 {
     let known = literal(g, right);
     let offset = offset_plan(g, ty, op, left, known);
-    let MaybePlan::None = offset else {
+    let None = offset else {
         return offset;
     };
     let ranges = compared_plan(op, range_at(g, left), range_at(g, right));
-    let MaybePlan::None = ranges else {
+    let None = ranges else {
         return ranges;
     };
     let same = with_itself_plan(ty, op, left, right);
-    let MaybePlan::None = same else {
+    let None = same else {
         return same;
     };
     literal_plan(g, ty, op, left, right, known)
@@ -134,17 +132,17 @@ fn store_plan(
     op: Binary,
     left: NodeId,
     right: NodeId,
-    decided: MaybePlan,
-    derived: Derived,
+    decided: Option<Plan>,
+    derived: Option<Option<Range>>,
 ) -> Plan
     ensures { plan_of result ≡ store_plan ty op left.0 right.0 (decided_of decided) (derived_of derived) }
 {
-    let Derived::Some(range) = derived else {
+    let Some(range) = derived else {
         return Plan::None;
     };
     match decided {
-        MaybePlan::Some(plan) => plan,
-        MaybePlan::None => Plan::Add(range, Operation::Binary(op, left, right), ty),
+        Some(plan) => plan,
+        None => Plan::Add(range, Operation::Binary(op, left, right), ty),
     }
 }
 
@@ -154,7 +152,7 @@ pub fn binary_plan(g: &[u64], ty: ScalarType, op: Binary, left: NodeId, right: N
     ensures { plan_of result ≡ binary_plan g.now ty op left.0 right.0 }
 {
     let decided = decided_plan(g, ty, op, left, right);
-    if let MaybePlan::Some(plan) = decided {
+    if let Some(plan) = decided {
         return plan;
     }
     let derived = binary_range(ty, op, range_at(g, left), range_at(g, right));
@@ -172,11 +170,11 @@ fn equality_first(g: &[u64], ty: ScalarType, op: Binary, left: NodeId, right: No
     }
     let comparison = fold_masked_comparison(g, op, left, right);
     match comparison {
-        MaybeMasked::Some(masked) => First::Try(
+        Some(masked) => First::Try(
             Attempt::Masked(masked),
             Rest::Binary(left, right, ty, op),
         ),
-        MaybeMasked::None => First::Do(binary_plan(g, ty, op, left, right)),
+        None => First::Do(binary_plan(g, ty, op, left, right)),
     }
 }
 
@@ -186,11 +184,11 @@ fn open_first(g: &[u64], ty: ScalarType, op: Binary, left: NodeId, right: NodeId
 {
     let known = literal(g, right);
     let constant = evaluated(ty, op, literal(g, left), known);
-    if let MaybePlan::Some(plan) = constant {
+    if let Some(plan) = constant {
         return First::Do(plan);
     }
     let shifted = shift_plan(g, ty, op, left, known);
-    if let MaybePlan::Some(plan) = shifted {
+    if let Some(plan) = shifted {
         return First::Do(plan);
     }
     equality_first(g, ty, op, left, right)

@@ -14,79 +14,79 @@ use evaluate::Binary;
 use evaluate::two_operands::binary_value;
 use fold::operator::{is_bitwise, is_equality, is_kept_by_zero, is_zero_by_zero, same_binary};
 use fold::shape::by_constant_at;
-use fold::{ByConstant, MaybeByConstant};
+use fold::ByConstant;
 use graph::NodeId;
 use graph::read::type_at;
-use plan::{MaybePlan, Plan};
+use plan::Plan;
 use range::ScalarType;
 use range::typed::mask;
-use word::{MaybeWord, Word};
+use word::Word;
 
 // The first of two decisions.
-pub(crate) fn or_plan(first: MaybePlan, second: MaybePlan) -> MaybePlan
+pub(crate) fn or_plan(first: Option<Plan>, second: Option<Plan>) -> Option<Plan>
     ensures { decided_of result ≡ or_else (decided_of first) (decided_of second) }
 {
-    let MaybePlan::None = first else {
+    let None = first else {
         return first;
     };
     second
 }
 
-fn zero_plan(ty: ScalarType, op: Binary, left: NodeId) -> MaybePlan
+fn zero_plan(ty: ScalarType, op: Binary, left: NodeId) -> Option<Plan>
     ensures { decided_of result ≡ zero_plan ty op left.0 }
 {
     if is_kept_by_zero(op) {
-        return MaybePlan::Some(Plan::Identity(left, ty));
+        return Some(Plan::Identity(left, ty));
     }
     if is_zero_by_zero(op) {
-        return MaybePlan::Some(Plan::Constant(Word { lo: 0, hi: 0 }, ty));
+        return Some(Plan::Constant(Word { lo: 0, hi: 0 }, ty));
     }
-    MaybePlan::None
+    None
 }
 
-fn bool_ones(op: Binary, left: NodeId, right: NodeId, value: Word) -> MaybePlan
+fn bool_ones(op: Binary, left: NodeId, right: NodeId, value: Word) -> Option<Plan>
     ensures { decided_of result ≡ ones_plan type.Bool op left.0 right.0 (val value) }
 {
     if !value.eq(Word { lo: 1, hi: 0 }) {
-        return MaybePlan::None;
+        return None;
     }
     if same_binary(op, Binary::And) {
-        return MaybePlan::Some(Plan::Give(left));
+        return Some(Plan::Give(left));
     }
     if same_binary(op, Binary::Or) {
-        return MaybePlan::Some(Plan::Give(right));
+        return Some(Plan::Give(right));
     }
-    MaybePlan::None
+    None
 }
 
-fn bits_ones(width: u16, op: Binary, left: NodeId, right: NodeId, value: Word) -> MaybePlan
+fn bits_ones(width: u16, op: Binary, left: NodeId, right: NodeId, value: Word) -> Option<Plan>
     ensures { decided_of result ≡ ones_plan (type.Bits width) op left.0 right.0 (val value) }
 {
     let ty = ScalarType::Bits(width);
     if !value.eq(mask(width)) {
-        return MaybePlan::None;
+        return None;
     }
     if same_binary(op, Binary::And) {
-        return MaybePlan::Some(Plan::Identity(left, ty));
+        return Some(Plan::Identity(left, ty));
     }
     if same_binary(op, Binary::Or) {
-        return MaybePlan::Some(Plan::Constant(mask(width), ty));
+        return Some(Plan::Constant(mask(width), ty));
     }
-    MaybePlan::None
+    None
 }
 
 // All ones of the type on the right: And keeps, Or gives them.
-fn ones_plan(ty: ScalarType, op: Binary, left: NodeId, right: NodeId, value: Word) -> MaybePlan
+fn ones_plan(ty: ScalarType, op: Binary, left: NodeId, right: NodeId, value: Word) -> Option<Plan>
     ensures { decided_of result ≡ ones_plan ty op left.0 right.0 (val value) }
 {
     match ty {
         ScalarType::Bool => bool_ones(op, left, right, value),
         ScalarType::Bits(width) => bits_ones(width, op, left, right, value),
-        ScalarType::Integer => MaybePlan::None,
+        ScalarType::Integer => None,
     }
 }
 
-fn right_plan(ty: ScalarType, op: Binary, left: NodeId, right: NodeId, value: Word) -> MaybePlan
+fn right_plan(ty: ScalarType, op: Binary, left: NodeId, right: NodeId, value: Word) -> Option<Plan>
     ensures { decided_of result ≡ right_plan ty op left.0 right.0 (val value) }
 {
     let ones = ones_plan(ty, op, left, right, value);
@@ -97,12 +97,12 @@ fn right_plan(ty: ScalarType, op: Binary, left: NodeId, right: NodeId, value: Wo
 }
 
 // One operation by the constant of two.
-fn merged_plan(ty: ScalarType, op: Binary, base: NodeId, value: MaybeWord) -> Plan
+fn merged_plan(ty: ScalarType, op: Binary, base: NodeId, value: Option<Word>) -> Plan
     ensures { plan_of result ≡ merged_plan ty op base.0 (number_of value) }
 {
     match value {
-        MaybeWord::Some(constant) => Plan::ConstantBinary(constant, base, ty, ty, op),
-        MaybeWord::None => Plan::None,
+        Some(constant) => Plan::ConstantBinary(constant, base, ty, ty, op),
+        None => Plan::None,
     }
 }
 
@@ -113,7 +113,7 @@ fn mask_of_mask(
     right: NodeId,
     value: Word,
     shape: ByConstant,
-) -> MaybePlan
+) -> Option<Plan>
     ensures { decided_of result ≡ mask_of_mask ty op right.0 (val value) (one_by_constant_of shape) }
 {
     let inner = shape.op;
@@ -121,12 +121,12 @@ fn mask_of_mask(
     let first = shape.value;
     if same_binary(inner, op) && is_bitwise(op) {
         let both = binary_value(op, ty, first, value);
-        return MaybePlan::Some(merged_plan(ty, op, base, both));
+        return Some(merged_plan(ty, op, base, both));
     }
     if same_binary(inner, Binary::Or) && same_binary(op, Binary::And) {
-        return MaybePlan::Some(Plan::AndOr(base, right, first.bitand(value), ty));
+        return Some(Plan::AndOr(base, right, first.bitand(value), ty));
     }
-    MaybePlan::None
+    None
 }
 
 fn bits_masks(
@@ -136,20 +136,20 @@ fn bits_masks(
     left: NodeId,
     right: NodeId,
     value: Word,
-) -> MaybePlan
+) -> Option<Plan>
     requires { length g.now ≡ REGION }
     ensures { decided_of result ≡ mask_plan g.now (type.Bits width) op left.0 right.0 (val value) }
 {
     let inner = by_constant_at(g, left);
     match inner {
-        MaybeByConstant::Some(shape) => mask_of_mask(
+        Some(shape) => mask_of_mask(
             ScalarType::Bits(width),
             op,
             right,
             value,
             shape,
         ),
-        MaybeByConstant::None => MaybePlan::None,
+        None => None,
     }
 }
 
@@ -160,14 +160,14 @@ fn mask_plan(
     left: NodeId,
     right: NodeId,
     value: Word,
-) -> MaybePlan
+) -> Option<Plan>
     requires { length g.now ≡ REGION }
     ensures { decided_of result ≡ mask_plan g.now ty op left.0 right.0 (val value) }
 {
     match ty {
-        ScalarType::Bool => MaybePlan::None,
+        ScalarType::Bool => None,
         ScalarType::Bits(width) => bits_masks(g, width, op, left, right, value),
-        ScalarType::Integer => MaybePlan::None,
+        ScalarType::Integer => None,
     }
 }
 
@@ -178,72 +178,72 @@ pub(crate) fn literal_plan(
     op: Binary,
     left: NodeId,
     right: NodeId,
-    known: MaybeWord,
-) -> MaybePlan
+    known: Option<Word>,
+) -> Option<Plan>
     requires { length g.now ≡ REGION }
     ensures { decided_of result ≡ literal_plan g.now ty op left.0 right.0 (number_of known) }
 {
-    let MaybeWord::Some(value) = known else {
-        return MaybePlan::None;
+    let Some(value) = known else {
+        return None;
     };
     let decided = right_plan(ty, op, left, right, value);
-    let MaybePlan::None = decided else {
+    let None = decided else {
         return decided;
     };
     mask_plan(g, ty, op, left, right, value)
 }
 
 // The remainder by a power of two is an And.
-fn remainder_plan(ty: ScalarType, op: Binary, left: NodeId, value: Word) -> MaybePlan
+fn remainder_plan(ty: ScalarType, op: Binary, left: NodeId, value: Word) -> Option<Plan>
     ensures { decided_of result ≡ remainder_plan ty op left.0 (val value) }
 {
     if same_binary(op, Binary::RemainderUnsigned) && value.is_power_of_two() {
         let bits = value.wrapping_sub(Word { lo: 1, hi: 0 });
-        return MaybePlan::Some(Plan::ConstantBinary(bits, left, ty, ty, Binary::And));
+        return Some(Plan::ConstantBinary(bits, left, ty, ty, Binary::And));
     }
-    MaybePlan::None
+    None
 }
 
 // Sub of Sub, if the sum of both constants is there.
-fn sub_of_sub(ty: ScalarType, base: NodeId, sum: MaybeWord) -> MaybePlan
+fn sub_of_sub(ty: ScalarType, base: NodeId, sum: Option<Word>) -> Option<Plan>
     ensures { decided_of result ≡ sub_of_sub ty base.0 (number_of sum) }
 {
     match sum {
-        MaybeWord::Some(value) => {
-            MaybePlan::Some(Plan::ConstantBinary(value, base, ty, ty, Binary::Sub))
+        Some(value) => {
+            Some(Plan::ConstantBinary(value, base, ty, ty, Binary::Sub))
         }
-        MaybeWord::None => MaybePlan::None,
+        None => None,
     }
 }
 
 // Add of Add, and Sub of Sub, by the sum of their constants.
-fn sum_of_sum(ty: ScalarType, op: Binary, value: Word, shape: ByConstant) -> MaybePlan
+fn sum_of_sum(ty: ScalarType, op: Binary, value: Word, shape: ByConstant) -> Option<Plan>
     ensures { decided_of result ≡ sum_of_sum ty op (val value) (one_by_constant_of shape) }
 {
     let inner = shape.op;
     let base = shape.base;
     let sum = binary_value(Binary::Add, ty, shape.value, value);
     if same_binary(op, Binary::Add) && same_binary(inner, Binary::Add) {
-        return MaybePlan::Some(merged_plan(ty, Binary::Add, base, sum));
+        return Some(merged_plan(ty, Binary::Add, base, sum));
     }
     if same_binary(op, Binary::Sub) && same_binary(inner, Binary::Sub) {
         return sub_of_sub(ty, base, sum);
     }
-    MaybePlan::None
+    None
 }
 
-fn sum_of_constant(g: &[u64], ty: ScalarType, op: Binary, left: NodeId, value: Word) -> MaybePlan
+fn sum_of_constant(g: &[u64], ty: ScalarType, op: Binary, left: NodeId, value: Word) -> Option<Plan>
     requires { length g.now ≡ REGION }
     ensures { decided_of result ≡ sum_plan g.now ty op left.0 (val value) }
 {
     let remainder = remainder_plan(ty, op, left, value);
-    if let MaybePlan::Some(plan) = remainder {
-        return MaybePlan::Some(plan);
+    if let Some(plan) = remainder {
+        return Some(plan);
     }
     let inner = by_constant_at(g, left);
     match inner {
-        MaybeByConstant::Some(shape) => sum_of_sum(ty, op, value, shape),
-        MaybeByConstant::None => MaybePlan::None,
+        Some(shape) => sum_of_sum(ty, op, value, shape),
+        None => None,
     }
 }
 
@@ -253,28 +253,28 @@ pub(crate) fn sum_plan(
     ty: ScalarType,
     op: Binary,
     left: NodeId,
-    known: MaybeWord,
-) -> MaybePlan
+    known: Option<Word>,
+) -> Option<Plan>
     requires { length g.now ≡ REGION }
     ensures { decided_of result ≡ given (number_of known) (sum_plan g.now ty op left.0) none }
 {
     match known {
-        MaybeWord::Some(value) => sum_of_constant(g, ty, op, left, value),
-        MaybeWord::None => MaybePlan::None,
+        Some(value) => sum_of_constant(g, ty, op, left, value),
+        None => None,
     }
 }
 
 // The constant that the base of a sum is compared with.
-fn offset_target(op: Binary, target: Word, offset: Word) -> MaybeWord
+fn offset_target(op: Binary, target: Word, offset: Word) -> Option<Word>
     ensures { number_of result ≡ offset_target op (val target) (val offset) }
 {
     if same_binary(op, Binary::Sub) {
-        return MaybeWord::Some(target.wrapping_add(offset));
+        return Some(target.wrapping_add(offset));
     }
     if same_binary(op, Binary::Add) {
-        return MaybeWord::Some(target.wrapping_sub(offset));
+        return Some(target.wrapping_sub(offset));
     }
-    MaybeWord::None
+    None
 }
 
 fn offset_compared(
@@ -283,17 +283,17 @@ fn offset_compared(
     width: u16,
     target: Word,
     shape: ByConstant,
-) -> MaybePlan
+) -> Option<Plan>
     ensures { decided_of result ≡ offset_compared ty op width (val target) (one_by_constant_of shape) }
 {
     let inner = shape.op;
     let base = shape.base;
     let other = offset_target(inner, target, shape.value);
-    let MaybeWord::Some(value) = other else {
-        return MaybePlan::None;
+    let Some(value) = other else {
+        return None;
     };
     let constant = ScalarType::Bits(width);
-    MaybePlan::Some(Plan::ConstantBinary(value, base, constant, ty, op))
+    Some(Plan::ConstantBinary(value, base, constant, ty, op))
 }
 
 fn offset_bits(
@@ -303,29 +303,29 @@ fn offset_bits(
     left: NodeId,
     target: Word,
     width: u16,
-) -> MaybePlan
+) -> Option<Plan>
     requires { length g.now ≡ REGION }
     ensures { decided_of result ≡ offset_typed g.now ty op left.0 (val target) (type.Bits width) }
 {
     if !target.le(mask(width)) {
-        return MaybePlan::None;
+        return None;
     }
     let inner = by_constant_at(g, left);
     match inner {
-        MaybeByConstant::Some(shape) => offset_compared(ty, op, width, target, shape),
-        MaybeByConstant::None => MaybePlan::None,
+        Some(shape) => offset_compared(ty, op, width, target, shape),
+        None => None,
     }
 }
 
-fn offset_typed(g: &[u64], ty: ScalarType, op: Binary, left: NodeId, target: Word) -> MaybePlan
+fn offset_typed(g: &[u64], ty: ScalarType, op: Binary, left: NodeId, target: Word) -> Option<Plan>
     requires { length g.now ≡ REGION }
     ensures { decided_of result ≡ offset_typed g.now ty op left.0 (val target) (type_at g.now left.0) }
 {
     let kind = type_at(g, left);
     match kind {
-        ScalarType::Bool => MaybePlan::None,
+        ScalarType::Bool => None,
         ScalarType::Bits(width) => offset_bits(g, ty, op, left, target, width),
-        ScalarType::Integer => MaybePlan::None,
+        ScalarType::Integer => None,
     }
 }
 
@@ -335,16 +335,16 @@ pub(crate) fn offset_plan(
     ty: ScalarType,
     op: Binary,
     left: NodeId,
-    known: MaybeWord,
-) -> MaybePlan
+    known: Option<Word>,
+) -> Option<Plan>
     requires { length g.now ≡ REGION }
     ensures { decided_of result ≡ offset_plan g.now ty op left.0 (number_of known) }
 {
     if !is_equality(op) {
-        return MaybePlan::None;
+        return None;
     }
     match known {
-        MaybeWord::Some(target) => offset_typed(g, ty, op, left, target),
-        MaybeWord::None => MaybePlan::None,
+        Some(target) => offset_typed(g, ty, op, left, target),
+        None => None,
     }
 }

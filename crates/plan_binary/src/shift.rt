@@ -10,12 +10,12 @@ ghost use Rattle.plan_binary.specs.Binary.{is_shifted_out, back_shift, shift_of_
 use evaluate::Binary;
 use fold::operator::{is_folded_shift, same_binary};
 use fold::shape::{by_constant_at, fits, is_narrow, origin, same_type};
-use fold::{ByConstant, MaybeByConstant};
+use fold::ByConstant;
 use graph::NodeId;
 use graph::read::{range_at, type_at};
-use plan::{MaybePlan, Plan};
+use plan::Plan;
 use range::ScalarType;
-use word::{MaybeWord, Word};
+use word::Word;
 
 // A width as a word.
 fn word_of(width: u16) -> Word
@@ -60,59 +60,59 @@ fn back_shift(width: u16, count: Word, shape: ByConstant) -> Plan
 }
 
 // A shift of a shift left, both below the width.
-fn shift_of_shift(op: Binary, width: u16, count: Word, shape: ByConstant) -> MaybePlan
+fn shift_of_shift(op: Binary, width: u16, count: Word, shape: ByConstant) -> Option<Plan>
     ensures { decided_of result ≡ shift_of_shift op width (val count) (one_by_constant_of shape) }
 {
     let inner = shape.op;
     let base = shape.base;
     let first = shape.value;
     if !first.lt(word_of(width)) || !count.lt(word_of(width)) {
-        return MaybePlan::None;
+        return None;
     }
     if !same_binary(inner, Binary::ShiftLeft) {
-        return MaybePlan::None;
+        return None;
     }
     if same_binary(op, Binary::ShiftRight) {
-        return MaybePlan::Some(back_shift(width, count, shape));
+        return Some(back_shift(width, count, shape));
     }
     let sum = Word {
         lo: first.lo + count.lo,
         hi: 0,
     };
     let ty = ScalarType::Bits(width);
-    MaybePlan::Some(Plan::ConstantBinary(sum, base, ScalarType::Integer, ty, op))
+    Some(Plan::ConstantBinary(sum, base, ScalarType::Integer, ty, op))
 }
 
-fn shift_by(g: &[u64], op: Binary, width: u16, left: NodeId, count: Word) -> MaybePlan
+fn shift_by(g: &[u64], op: Binary, width: u16, left: NodeId, count: Word) -> Option<Plan>
     requires { length g.now ≡ REGION }
     ensures { decided_of result ≡ shift_by g.now op width left.0 (val count) }
 {
     let ty = ScalarType::Bits(width);
     let narrow = is_narrow(type_at(g, left), width) || fits(range_at(g, left), width);
     if is_shifted_out(op, width, count, narrow) {
-        return MaybePlan::Some(Plan::Constant(Word { lo: 0, hi: 0 }, ty));
+        return Some(Plan::Constant(Word { lo: 0, hi: 0 }, ty));
     }
     let source = origin(g, left);
     if !same_type(type_at(g, source), ty) {
-        return MaybePlan::None;
+        return None;
     }
     let inner = by_constant_at(g, source);
     match inner {
-        MaybeByConstant::Some(shape) => shift_of_shift(op, width, count, shape),
-        MaybeByConstant::None => MaybePlan::None,
+        Some(shape) => shift_of_shift(op, width, count, shape),
+        None => None,
     }
 }
 
-fn bits_shift(g: &[u64], width: u16, op: Binary, left: NodeId, right: MaybeWord) -> MaybePlan
+fn bits_shift(g: &[u64], width: u16, op: Binary, left: NodeId, right: Option<Word>) -> Option<Plan>
     requires { length g.now ≡ REGION }
     ensures { decided_of result ≡ shift_plan g.now (ty.Bits width) op left.0 (number_of right) }
 {
     if !is_folded_shift(op) {
-        return MaybePlan::None;
+        return None;
     }
     match right {
-        MaybeWord::Some(count) => shift_by(g, op, width, left, count),
-        MaybeWord::None => MaybePlan::None,
+        Some(count) => shift_by(g, op, width, left, count),
+        None => None,
     }
 }
 
@@ -122,14 +122,14 @@ pub(crate) fn shift_plan(
     ty: ScalarType,
     op: Binary,
     left: NodeId,
-    right: MaybeWord,
-) -> MaybePlan
+    right: Option<Word>,
+) -> Option<Plan>
     requires { length g.now ≡ REGION }
     ensures { decided_of result ≡ shift_plan g.now ty op left.0 (number_of right) }
 {
     match ty {
-        ScalarType::Bool => MaybePlan::None,
+        ScalarType::Bool => None,
         ScalarType::Bits(width) => bits_shift(g, width, op, left, right),
-        ScalarType::Integer => MaybePlan::None,
+        ScalarType::Integer => None,
     }
 }

@@ -1,6 +1,6 @@
 -- The plans of slice and concat.
 use Rattle.std.specs.Prelude.{cond, ◌&&◌, ◌||◌, List, ℕ, ◌+◌, ◌-◌, ◌*◌, ◌/◌, ◌%◌, ◌^◌, eqb, ltb, leb}
-use Rattle.std.proofs.Math.Option.{Option, none, some}
+use Rattle.std.specs.Prelude.{Option, None, Some}
 use Rattle.std.specs.Int.Bits.{bit_or}
 use Rattle.word.specs.Value.{residue}
 use Rattle.word.specs.Option.{only, provided, given}
@@ -14,8 +14,6 @@ use Rattle.fold.specs.Range.{untold, stored_range}
 use Rattle.fold.specs.Shape.{same_type}
 use Rattle.bitfield.specs.Bitfield.{above, Field, fold_bitfield_concat}
 use Rattle.plan_slice.specs.declared.Cut as declared-cut
-use Rattle.plan_slice.specs.declared.MaybeCut as declared-cuts
-use Rattle.plan_slice.specs.declared.MaybeCut.TheVariants as cuts
 use Rattle.plan.specs.Plan as plan
 use Rattle.plan.specs.Plan.{Plan, First, does, tries, slice_rest, concat_rest}
 use Rattle.plan.specs.OneOperand.{add_or}
@@ -28,10 +26,10 @@ lowered v o = cond (ltb o 128) (v / 2 ^ o) 0
 
 -- a range that is not negative says that the bits are 0, or at offset 0 that the value fits
 abbrev pub bounded_plan : Option Interval → ℕ → ℕ → ℕ → Option Plan
-bounded_plan none v o w = none
-bounded_plan (some a) v o w =
+bounded_plan None v o w = None
+bounded_plan (Some a) v o w =
     provided (nonnegative a)
-    (cond (eqb (lowered (residue 128 a.high) o) 0) (some (plan.constant (ty.Bits w) 0))
+    (cond (eqb (lowered (residue 128 a.high) o) 0) (Some (plan.constant (ty.Bits w) 0))
     (only (eqb o 0 && inside_bits w a) (plan.identity (ty.Bits w) v)))
 
 -- a new Slice
@@ -94,29 +92,29 @@ pub record Cut : Type 0 where
 
 -- an operation that is a slice
 abbrev pub cut_of : Op → Option Cut
-cut_of (node.constant c) = none
-cut_of (node.input i) = none
-cut_of (node.refine i) = none
-cut_of (node.effect i) = none
-cut_of (node.slice i o w) = some (record { value = i; offset = o })
-cut_of (node.concat i j w) = none
-cut_of (node.unary u i) = none
-cut_of (node.binary b i j) = none
+cut_of (node.constant c) = None
+cut_of (node.input i) = None
+cut_of (node.refine i) = None
+cut_of (node.effect i) = None
+cut_of (node.slice i o w) = Some (record { value = i; offset = o })
+cut_of (node.concat i j w) = None
+cut_of (node.unary u i) = None
+cut_of (node.binary b i j) = None
 
 -- what a Cut of the code stands for
 abbrev pub one_cut_of : declared-cut.Cut → Cut
 one_cut_of c = record { value = c.value.0; offset = c.offset }
 
--- what a MaybeCut stands for
-abbrev pub maybe_cut_of : declared-cuts.MaybeCut → Option Cut
-maybe_cut_of (cuts.Some c) = some (one_cut_of c)
-maybe_cut_of cuts.None = none
+-- what a Option Cut stands for
+abbrev pub maybe_cut_of : Option declared.Cut → Option Cut
+maybe_cut_of (Some c) = Some (one_cut_of c)
+maybe_cut_of None = None
 
 -- two slices side by side of one node are one slice (native.rs 705 to 721)
 abbrev pub adjacent : Option Cut → Option Cut → ℕ → ℕ → Option Plan
-adjacent none b v w = none
-adjacent (some a) none v w = none
-adjacent (some a) (some b) v w = only (eqb a.value b.value && eqb a.offset (b.offset + v)) (plan.slice a.value b.offset w)
+adjacent None b v w = None
+adjacent (Some a) None v w = None
+adjacent (Some a) (Some b) v w = only (eqb a.value b.value && eqb a.offset (b.offset + v)) (plan.slice a.value b.offset w)
 
 -- a concat of one node's own bits and of constants: And keeps those, Or sets the others (bitfield.rs 103 to 113)
 abbrev pub field_plan : List ℕ → ℕ → ℕ → ℕ → ℕ → Field → First
@@ -140,9 +138,9 @@ concat_open g high low v w =
 
 -- the constant of two constant parts
 abbrev pub joined_plan : Option ℕ → Option ℕ → ℕ → ℕ → Option Plan
-joined_plan none l v w = none
-joined_plan (some h) none v w = none
-joined_plan (some h) (some l) v w = some (plan.constant (ty.Bits w) (joined h l v))
+joined_plan None l v w = None
+joined_plan (Some h) None v w = None
+joined_plan (Some h) (Some l) v w = Some (plan.constant (ty.Bits w) (joined h l v))
 
 -- the first plan of concat
 unfoldable pub concat_first : List ℕ → ℕ → ℕ → ℕ → ℕ → First

@@ -12,8 +12,3 @@ pub struct Cut {
     pub offset: u16,
 }
 
-#[derive(Clone, Copy)]
-pub enum MaybeCut {
-    Some(Cut),
-    None,
-}

@@ -8,19 +8,18 @@ ghost use Rattle.plan.specs.Plan.{plan_of, decided_of, first_of};
 ghost use Rattle.bitfield.specs.Bitfield.{field_of};
 ghost use Rattle.plan_slice.specs.Slice.{lowered, bounded_plan, new_slice, slice_concat, slice_operation, slice_part, slice_plan, slice_open, slice_first, concat_plan, joined, maybe_cut_of, cut_of, adjacent, joined_plan, field_plan, concat_field, concat_open, concat_first};
 
-use crate::{Cut, MaybeCut};
+use crate::Cut;
 use bitfield::bits::is_above;
 use bitfield::fields::fold_bitfield_concat;
-use bitfield::{Field, Masked, MaybeField};
+use bitfield::{Field, Masked};
 use evaluate::Binary;
-use fold::MaybeId;
 use fold::shape::same_type;
 use graph::read::{literal, operation_at, range_at, type_at};
 use graph::{NodeId, Operation};
-use plan::{Attempt, First, MaybePlan, Plan, Rest};
+use plan::{Attempt, First, Plan, Rest};
 use range::typed::type_range;
-use range::{MaybeRange, ScalarType};
-use word::{MaybeWord, Word};
+use range::ScalarType;
+use word::Word;
 
 // The value from the offset up, 0 from offset 128 on.
 fn lowered(value: Word, offset: u64) -> Word
@@ -34,24 +33,24 @@ fn lowered(value: Word, offset: u64) -> Word
 }
 
 // A range that is not negative may say that the bits are 0, or at offset 0 that the value fits.
-fn bounded_plan(range: MaybeRange, value: NodeId, offset: u64, width: u16) -> MaybePlan
+fn bounded_plan(range: Option<Range>, value: NodeId, offset: u64, width: u16) -> Option<Plan>
     ensures { decided_of result ≡ bounded_plan (interval_of range) value.0 offset width }
 {
-    let MaybeRange::Some(bounds) = range else {
-        return MaybePlan::None;
+    let Some(bounds) = range else {
+        return None;
     };
     if !bounds.is_nonnegative() {
-        return MaybePlan::None;
+        return None;
     }
     let max = bounds.max;
     let upper = lowered(max.as_word(), offset);
     if upper.is_zero() {
-        return MaybePlan::Some(Plan::Constant(Word { lo: 0, hi: 0 }, ScalarType::Bits(width)));
+        return Some(Plan::Constant(Word { lo: 0, hi: 0 }, ScalarType::Bits(width)));
     }
     if offset == 0 && bounds.is_in_bits(width) {
-        return MaybePlan::Some(Plan::Identity(value, ScalarType::Bits(width)));
+        return Some(Plan::Identity(value, ScalarType::Bits(width)));
     }
-    MaybePlan::None
+    None
 }
 
 fn new_slice(value: NodeId, offset: u64, width: u16) -> Plan
@@ -133,8 +132,8 @@ pub fn slice_plan(g: &[u64], value: NodeId, offset: u64, width: u16) -> Plan
 {
     let bounded = bounded_plan(range_at(g, value), value, offset, width);
     match bounded {
-        MaybePlan::Some(plan) => plan,
-        MaybePlan::None => slice_part(g, value, offset, width),
+        Some(plan) => plan,
+        None => slice_part(g, value, offset, width),
     }
 }
 
@@ -157,11 +156,11 @@ pub fn slice_first(g: &[u64], value: NodeId, offset: u64, width: u16) -> First
 {
     let known = literal(g, value);
     match known {
-        MaybeWord::Some(constant) => First::Do(Plan::Constant(
+        Some(constant) => First::Do(Plan::Constant(
             lowered(constant, offset),
             ScalarType::Bits(width),
         )),
-        MaybeWord::None => slice_open(g, value, offset, width),
+        None => slice_open(g, value, offset, width),
     }
 }
 
@@ -190,32 +189,32 @@ fn joined(high: Word, low: Word, low_width: u16) -> Word
     raised.bitor(low)
 }
 
-fn joined_plan(high: MaybeWord, low: MaybeWord, low_width: u16, width: u16) -> MaybePlan
+fn joined_plan(high: Option<Word>, low: Option<Word>, low_width: u16, width: u16) -> Option<Plan>
     ensures { decided_of result ≡ joined_plan (number_of high) (number_of low) low_width width }
 {
-    let MaybeWord::Some(a) = high else {
-        return MaybePlan::None;
+    let Some(a) = high else {
+        return None;
     };
-    let MaybeWord::Some(b) = low else {
-        return MaybePlan::None;
+    let Some(b) = low else {
+        return None;
     };
     let ty = ScalarType::Bits(width);
-    MaybePlan::Some(Plan::Constant(joined(a, b, low_width), ty))
+    Some(Plan::Constant(joined(a, b, low_width), ty))
 }
 
-fn cut_of(operation: Operation) -> MaybeCut
+fn cut_of(operation: Operation) -> Option<Cut>
     ensures { maybe_cut_of result ≡ cut_of (op_of operation) }
 {
     match operation {
-        Operation::Constant(_) => MaybeCut::None,
-        Operation::Input(_) => MaybeCut::None,
-        Operation::Refine(_) => MaybeCut::None,
-        Operation::Effect(_) => MaybeCut::None,
+        Operation::Constant(_) => None,
+        Operation::Input(_) => None,
+        Operation::Refine(_) => None,
+        Operation::Effect(_) => None,
         Operation::Slice {
             value,
             offset,
             width: _,
-        } => MaybeCut::Some(Cut {
+        } => Some(Cut {
             value: value,
             offset: offset,
         }),
@@ -223,31 +222,31 @@ fn cut_of(operation: Operation) -> MaybeCut
             high: _,
             low: _,
             low_width: _,
-        } => MaybeCut::None,
-        Operation::Unary(_, _) => MaybeCut::None,
-        Operation::Binary(_, _, _) => MaybeCut::None,
+        } => None,
+        Operation::Unary(_, _) => None,
+        Operation::Binary(_, _, _) => None,
     }
 }
 
 // Two slices side by side of one node are one slice.
-fn adjacent(high: Operation, low: Operation, low_width: u16, width: u16) -> MaybePlan
+fn adjacent(high: Operation, low: Operation, low_width: u16, width: u16) -> Option<Plan>
     ensures { decided_of result ≡ adjacent (cut_of (op_of high)) (cut_of (op_of low)) low_width width }
 {
     let first = cut_of(high);
     let second = cut_of(low);
-    let MaybeCut::Some(a) = first else {
-        return MaybePlan::None;
+    let Some(a) = first else {
+        return None;
     };
-    let MaybeCut::Some(b) = second else {
-        return MaybePlan::None;
+    let Some(b) = second else {
+        return None;
     };
     let upper = a.value;
     let lower = b.value;
     let seam = b.offset as u64 + low_width as u64;
     if upper.0 == lower.0 && a.offset as u64 == seam {
-        return MaybePlan::Some(Plan::Slice(upper, b.offset as u64, width));
+        return Some(Plan::Slice(upper, b.offset as u64, width));
     }
-    MaybePlan::None
+    None
 }
 
 // A concat of one node's own bits and of constants: And keeps those, Or sets the others.
@@ -266,7 +265,7 @@ fn field_plan(
     let found = field.base;
     let keep = field.keep;
     let literal = field.literal;
-    let MaybeId::Some(base) = found else {
+    let Some(base) = found else {
         return First::Do(Plan::Constant(literal, ty));
     };
     if !same_type(type_at(g, base), ty) {
@@ -292,8 +291,8 @@ fn concat_field(g: &[u64], high: NodeId, low: NodeId, low_width: u16, width: u16
 {
     let bits = fold_bitfield_concat(g, high, low, low_width, width);
     match bits {
-        MaybeField::Some(field) => field_plan(g, high, low, low_width, width, field),
-        MaybeField::None => First::Do(concat_plan(high, low, low_width, width)),
+        Some(field) => field_plan(g, high, low, low_width, width, field),
+        None => First::Do(concat_plan(high, low, low_width, width)),
     }
 }
 
@@ -305,8 +304,8 @@ fn concat_open(g: &[u64], high: NodeId, low: NodeId, low_width: u16, width: u16)
     let second = operation_at(g, low);
     let one = adjacent(first, second, low_width, width);
     match one {
-        MaybePlan::Some(plan) => First::Do(plan),
-        MaybePlan::None => concat_field(g, high, low, low_width, width),
+        Some(plan) => First::Do(plan),
+        None => concat_field(g, high, low, low_width, width),
     }
 }
 
@@ -322,7 +321,7 @@ pub fn concat_first(g: &[u64], high: NodeId, low: NodeId, low_width: u16, width:
     }
     let constant = joined_plan(literal(g, high), literal(g, low), low_width, width);
     match constant {
-        MaybePlan::Some(plan) => First::Do(plan),
-        MaybePlan::None => concat_open(g, high, low, low_width, width),
+        Some(plan) => First::Do(plan),
+        None => concat_open(g, high, low, low_width, width),
     }
 }

@@ -2,7 +2,7 @@
 use mathlib.Core.Path.{◌≡◌, refl, sym, ap, ◌∙◌}
 use mathlib.Core.Bool.{Bool, true, false, not, cond, ◌&&◌, false≢true}
 use mathlib.Core.Logic.{⊎_elim}
-use mathlib.Core.Option.{Option, none, some}
+use Rattle.std.specs.Prelude.{Option, None, Some}
 use Prim.Native.Nat.{ℕ, min, suc, ◌+◌, ◌-◌, ◌*◌, ◌/◌, ◌%◌, ◌^◌, ◌<◌, ◌≤◌}
 use native.Mathlib.Nat.{min-eq_right, one-mul, zero-mul, mul-zero, mod-eq_of_lt, le_refl, le_trans, le_antisymm, lt_of_le_of_lt}
 use native.Mathlib.Omega.{arith}
@@ -55,7 +55,7 @@ difference_fits (pos a) (negsuc b) s t f g = cc
 difference_fits (negsuc a) y s t f g = cc
 
 -- the greater of two answered sizes is not below 0
-pub larger_size : {x y : ℤ} (m n : ℕ) → some x ≡ fitted (pos m) → some y ≡ fitted (pos n) → is_neg (max_z x y) ≡ false
+pub larger_size : {x y : ℤ} (m n : ℕ) → Some x ≡ fitted (pos m) → Some y ≡ fitted (pos n) → is_neg (max_z x y) ≡ false
 larger_size {x} {y} m n e f = rw (answered (fits (pos m)) x (pos m) e, answered (fits (pos n)) y (pos n) f) (of (ltb n m))
   where
     of : (t : Bool) → is_neg (cond t (pos m) (pos n)) ≡ false
@@ -64,7 +64,7 @@ larger_size {x} {y} m n e f = rw (answered (fits (pos m)) x (pos m) e, answered 
 
 -- ---- products of ranges from 0 up
 
-last_corner : (t : Bool) (k : ℕ) → corners_of (some (pos 0)) (some (pos 0)) (some (pos 0)) (only t (pos k)) ≡ between (some (pos 0)) (only t (pos k))
+last_corner : (t : Bool) (k : ℕ) → corners_of (Some (pos 0)) (Some (pos 0)) (Some (pos 0)) (only t (pos k)) ≡ between (Some (pos 0)) (only t (pos k))
 last_corner true k = simp (le-ltb k 0 (omega arith))
 last_corner false k = refl
 
@@ -82,7 +82,7 @@ second_test false t e = absurd (false≢true e)
 
 -- three of the four corners are 0, and the fourth is the greatest
 pub from_zero : (a b c d : ℤ) → eq_z a (pos 0) && not (is_neg b) ≡ true → eq_z c (pos 0) && not (is_neg d) ≡ true
-    → corners_of (fitted (a *ℤ c)) (fitted (a *ℤ d)) (fitted (b *ℤ c)) (fitted (b *ℤ d)) ≡ between (some (pos 0)) (fitted (b *ℤ d))
+    → corners_of (fitted (a *ℤ c)) (fitted (a *ℤ d)) (fitted (b *ℤ c)) (fitted (b *ℤ d)) ≡ between (Some (pos 0)) (fitted (b *ℤ d))
 unfolding fits
 from_zero (pos i) (pos m) (pos j) (pos n) e f =
     rw (eqb-true i 0 (first_test (eqb i 0) true e), eqb-true j 0 (first_test (eqb j 0) true f), zero-mul, zero-mul, mul-zero)
@@ -94,14 +94,14 @@ from_zero (negsuc i) b c d e f = absurd (false≢true e)
 
 -- ---- quotients of ranges that rise from 0 or more
 
-no_high : (o : Option ℤ) → between o none ≡ none
-no_high none = refl
-no_high (some l) = refl
+no_high : (o : Option ℤ) → between o None ≡ None
+no_high None = refl
+no_high (Some l) = refl
 
-no_third : (o p q : Option ℤ) → corners_of o p none q ≡ none
-no_third none p q = refl
-no_third (some x) none q = refl
-no_third (some x) (some y) q = refl
+no_third : (o p q : Option ℤ) → corners_of o p None q ≡ None
+no_third None p q = refl
+no_third (Some x) None q = refl
+no_third (Some x) (Some y) q = refl
 
 module _ {x y : ℕ} (le : x ≤ y) where
   least_first : min_z (pos x) (pos y) ≡ pos x
@@ -126,7 +126,7 @@ module _ {x y : ℕ} (le : x ≤ y) where
 
 -- the corners a / c, a / d, b / c and b / d: the second is the least and the third the greatest
 outer_corners : (p q r s : ℕ) → q ≤ p → q ≤ s → p ≤ r → s ≤ r
-    → corners_of (some (pos p)) (some (pos q)) (some (pos r)) (some (pos s)) ≡ between (some (pos q)) (some (pos r))
+    → corners_of (Some (pos p)) (Some (pos q)) (Some (pos r)) (Some (pos s)) ≡ between (Some (pos q)) (Some (pos r))
 outer_corners p q r s f g h k =
     rw (least_second f, least_second k, least_first g, greatest_first f, greatest_first k, greatest_second h)
 

@@ -2,7 +2,7 @@
 use mathlib.Core.Path.{◌≡◌, refl, sym, subst}
 use mathlib.Core.Bool.{Bool, true, false, ◌&&◌, ◌||◌}
 use mathlib.Core.Logic.{◌⊎◌, inl, inr, ⊎_elim}
-use mathlib.Core.Option.{Option, none, some}
+use Rattle.std.specs.Prelude.{Option, None, Some}
 use Prim.Native.Nat.{ℕ, suc, ◌+◌, ◌-◌, ◌*◌, ◌/◌, ◌%◌, ◌^◌, ◌≤◌, ◌<◌}
 use native.Mathlib.Nat.{mod-lt, mod-le, mul-le-mul, le_of_eq, lt_of_lt_of_le, div-eq_of_lt}
 use native.Mathlib.Omega.{arith}
@@ -38,13 +38,13 @@ at_most_lem x y e = le_z_yes (subst T (sym e) tt)
 -- ---- what holds of an answer, if there is one
 
 data All {A : Type 0} (P : A → Type 0) : Option A → Type 0 where
-  nothing : All P none
-  just : {a : A} → P a → All P (some a)
+  nothing : All P None
+  just : {a : A} → P a → All P (Some a)
 
-the : {A : Type 0} {P : A → Type 0} {r : A} → All P (some r) → P r
+the : {A : Type 0} {P : A → Type 0} {r : A} → All P (Some r) → P r
 the (just h) = h
 
-given : {A : Type 0} (P : A → Type 0) {o : Option A} {r : A} → All P o → o ≡ some r → P r
+given : {A : Type 0} (P : A → Type 0) {o : Option A} {r : A} → All P o → o ≡ Some r → P r
 given P h e = the (subst (All P) e h)
 
 tested : {A : Type 0} {P : A → Type 0} (t : Bool) (o : Option A) → (t ≡ true → All P o) → All P (provided t o)
@@ -56,7 +56,7 @@ tested_both s t o h = tested (s && t) o (λ e. h (tests s t e).0 (tests s t e).1
 
 module _ {P : ℤ → Type 0} where
   fit : (z : ℤ) → P z → All P (fitted z)
-  fit z h = tested (fits z) (some z) (λ t. just h)
+  fit z h = tested (fits z) (Some z) (λ t. just h)
 
   divided : (x y : ℤ) → P (quot_z x y) → All P (quotient x y)
   unfolding quotient
@@ -67,8 +67,8 @@ module _ {P : ℤ → Type 0} where
   shift z k h = tested (ltb (clamped k) 127) _ (λ t. fit _ (h (ltb-true (clamped k) 127 t)))
 
   lesser : (z : ℤ) (o : Option ℤ) → All (λ m. P (min_z z m)) o → All P (at_most z o)
-  lesser z none h = nothing
-  lesser z (some m) (just h) = just h
+  lesser z None h = nothing
+  lesser z (Some m) (just h) = just h
 
 -- from the lesser low end to the greater high end
 abbrev hull : Interval → Interval → Interval
@@ -80,21 +80,21 @@ frame k l m n = hull (hull (point k) (point l)) (hull (point m) (point n))
 
 module _ {P : Interval → Type 0} where
   ends : (o p : Option ℤ) → All (λ l. All (λ h. P (record { low = l; high = h })) p) o → All P (between o p)
-  ends none p h = nothing
-  ends (some l) none h = nothing
-  ends (some l) (some u) (just (just h)) = just h
+  ends None p h = nothing
+  ends (Some l) None h = nothing
+  ends (Some l) (Some u) (just (just h)) = just h
 
   cuts : (a : Interval) (o p : Option ℤ) → All (λ m. All (λ n. P (cut a (max_z m n))) p) o → All P (cut_to a o p)
-  cuts a none p h = nothing
-  cuts a (some m) none h = nothing
-  cuts a (some m) (some n) (just (just h)) = just h
+  cuts a None p h = nothing
+  cuts a (Some m) None h = nothing
+  cuts a (Some m) (Some n) (just (just h)) = just h
 
   corners : (o p q r : Option ℤ) → All (λ k. All (λ l. All (λ m. All (λ n. P (frame k l m n)) r) q) p) o → All P (corners_of o p q r)
-  corners none p q r h = nothing
-  corners (some k) none q r h = nothing
-  corners (some k) (some l) none r h = nothing
-  corners (some k) (some l) (some m) none h = nothing
-  corners (some k) (some l) (some m) (some n) (just (just (just (just h)))) = just h
+  corners None p q r h = nothing
+  corners (Some k) None q r h = nothing
+  corners (Some k) (Some l) None r h = nothing
+  corners (Some k) (Some l) (Some m) None h = nothing
+  corners (Some k) (Some l) (Some m) (Some n) (just (just (just (just h)))) = just h
 
 -- ---- sums, products, quotients
 
@@ -134,20 +134,20 @@ in_cut a (negsuc n) y m f p h =
     (omega (orders, sum_parts (pos 1) (neg_ℤ m), neg_parts m)) in
     omega (orders, extremes (max_z a.low (pos 1 -ℤ m)) (pos 0), extremes (min_z a.high (m -ℤ pos 1)) (pos 0))
 
-pub neg_in : (a r : Interval) (x : ℤ) → x ∈ a → neg_interval a ≡ some r → (neg_ℤ x) ∈ r
+pub neg_in : (a r : Interval) (x : ℤ) → x ∈ a → neg_interval a ≡ Some r → (neg_ℤ x) ∈ r
 unfolding neg_interval
 neg_in a r x f = given (◌∈◌ (neg_ℤ x)) (fitted-ends _ _ (neg-le f.below) (neg-le f.above))
 
 module _ (a b r : Interval) (x y : ℤ) (f : x ∈ a) (g : y ∈ b) where
-  pub add_in : add_interval a b ≡ some r → (x +ℤ y) ∈ r
+  pub add_in : add_interval a b ≡ Some r → (x +ℤ y) ∈ r
   unfolding add_interval
   add_in = given (◌∈◌ (x +ℤ y)) (fitted-ends _ _ (add-le f.above g.above) (add-le f.below g.below))
 
-  pub sub_in : sub_interval a b ≡ some r → (x -ℤ y) ∈ r
+  pub sub_in : sub_interval a b ≡ Some r → (x -ℤ y) ∈ r
   unfolding sub_interval
   sub_in = given (◌∈◌ (x -ℤ y)) (fitted-ends _ _ (add-le f.above (neg-le g.below)) (add-le f.below (neg-le g.above)))
 
-  pub mul_in : mul_interval a b ≡ some r → (x *ℤ y) ∈ r
+  pub mul_in : mul_interval a b ≡ Some r → (x *ℤ y) ∈ r
   unfolding mul_interval
   mul_in =
       given (◌∈◌ (x *ℤ y))
@@ -161,7 +161,7 @@ module _ (a b r : Interval) (x y : ℤ) (f : x ∈ a) (g : y ∈ b) where
       ⊎_elim (λ (l : lt_z (pos 0) b.low ≡ true). omega (orders, less_true (pos 0) b.low l, abs_parts y))
       (λ (l : lt_z b.high (pos 0) ≡ true). omega (orders, less_true b.high (pos 0) l, abs_parts y)) (either _ _ (tests _ _ d).0)
 
-  pub quot_in : quot_interval a b ≡ some r → (quot_z x y) ∈ r
+  pub quot_in : quot_interval a b ≡ Some r → (quot_z x y) ∈ r
   unfolding quot_interval
   quot_in =
       given (◌∈◌ (quot_z x y))
@@ -170,7 +170,7 @@ module _ (a b r : Interval) (x y : ℤ) (f : x ∈ a) (g : y ∈ b) where
       corners _ _ _ _ (divided _ _ (divided _ _ (divided _ _ (divided _ _
       (framed quot_z a b x y (dividend y d.0 f.above f.below) (λ z. divisor z d.1 d.2 g.above g.below))))))))
 
-  pub rem_in : rem_interval a b ≡ some r → (rem_z x y) ∈ r
+  pub rem_in : rem_interval a b ≡ Some r → (rem_z x y) ∈ r
   unfolding rem_interval
   rem_in =
       given (◌∈◌ (rem_z x y))
@@ -206,7 +206,7 @@ quotient_le (pos j) (negsuc i) h k p = absurd (omega arith)
 quotient_le (negsuc j) v h k p = absurd (omega orders)
 
 module _ (a b r : Interval) (m n : ℕ) where
-  pub and_in : (pos m) ∈ a → (pos n) ∈ b → and_interval a b ≡ some r → (pos (bit_and m n)) ∈ r
+  pub and_in : (pos m) ∈ a → (pos n) ∈ b → and_interval a b ≡ Some r → (pos (bit_and m n)) ∈ r
   unfolding and_interval
   and_in f g =
       given (◌∈◌ (pos (bit_and m n)))
@@ -215,7 +215,7 @@ module _ (a b r : Interval) (m n : ℕ) where
         below = le-min a.high b.high _ (omega (orders, and_le_l m n)) (omega (orders, and_le_r m n));
       })))
 
-  pub udiv_in : (pos m) ∈ a → (pos n) ∈ b → udiv_interval a b ≡ some r → (pos (m / n)) ∈ r
+  pub udiv_in : (pos m) ∈ a → (pos n) ∈ b → udiv_interval a b ≡ Some r → (pos (m / n)) ∈ r
   unfolding udiv_interval
   udiv_in f g =
       given (◌∈◌ (pos (m / n)))
@@ -225,7 +225,7 @@ module _ (a b r : Interval) (m n : ℕ) where
         below = quotient_le a.high b.low f.below g.above (omega (arith, less_true (pos 0) b.low t));
       })))))
 
-  pub urem_in : (pos m) ∈ a → (pos n) ∈ b → urem_interval a b ≡ some r → (pos (m % n)) ∈ r
+  pub urem_in : (pos m) ∈ a → (pos n) ∈ b → urem_interval a b ≡ Some r → (pos (m % n)) ∈ r
   unfolding urem_interval
   urem_in f g =
       given (◌∈◌ (pos (m % n)))
@@ -236,7 +236,7 @@ module _ (a b r : Interval) (m n : ℕ) where
         below = le-min a.high (b.high -ℤ pos 1) _ (omega (orders, mod-le m n)) (omega (orders, sum_parts b.high (negsuc 0)));
       }))))))
 
-  pub shl_in : (pos m) ∈ a → (pos n) ∈ b → shl_interval a b ≡ some r → (pos (m * 2 ^ n)) ∈ r
+  pub shl_in : (pos m) ∈ a → (pos n) ∈ b → shl_interval a b ≡ Some r → (pos (m * 2 ^ n)) ∈ r
   unfolding shl_interval clamped
   shl_in f g =
       given (◌∈◌ (pos (m * 2 ^ n)))
@@ -248,7 +248,7 @@ module _ (a b r : Interval) (m n : ℕ) where
         below = left_le (pos m) a.high (omega orders) f.below (omega (arith, clamped-le (pos n) b.high (omega orders) g.below));
       })))))
 
-  pub shr_in : mag a.low < 2 ^ 127 → (pos m) ∈ a → (pos n) ∈ b → shr_interval a b ≡ some r → (pos (m / 2 ^ n)) ∈ r
+  pub shr_in : mag a.low < 2 ^ 127 → (pos m) ∈ a → (pos n) ∈ b → shr_interval a b ≡ Some r → (pos (m / 2 ^ n)) ∈ r
   unfolding shr_interval clamped
   shr_in small f g =
       given (◌∈◌ (pos (m / 2 ^ n)))
@@ -264,7 +264,7 @@ module _ (a b r : Interval) (m n : ℕ) where
 
 -- ---- types
 
-pub filtered_in : (w : ℕ) (a r : Interval) (z : ℤ) → z ∈ a → filtered w a ≡ some r → (z ∈ r) × ((n : ℕ) × (z ≡ pos n) × (n < 2 ^ w))
+pub filtered_in : (w : ℕ) (a r : Interval) (z : ℤ) → z ∈ a → filtered w a ≡ Some r → (z ∈ r) × ((n : ℕ) × (z ≡ pos n) × (n < 2 ^ w))
 unfolding filtered
 filtered_in w a r z f =
     given (λ i. (z ∈ i) × ((n : ℕ) × (z ≡ pos n) × (n < 2 ^ w)))
@@ -278,14 +278,14 @@ filtered_in w a r z f =
     bits (pos n) p q = (n, refl, lt_of_le_ones w (omega orders))
     bits (negsuc n) p q = absurd (omega orders)
 
-pub type_in_bits : (w n : ℕ) (r : Interval) → n < 2 ^ w → bits_interval w ≡ some r → (pos n) ∈ r
+pub type_in_bits : (w n : ℕ) (r : Interval) → n < 2 ^ w → bits_interval w ≡ Some r → (pos n) ∈ r
 unfolding bits_interval
 type_in_bits w n r h = given (◌∈◌ (pos n)) (tested (ltb w 128) _ (λ t. just (omega (orders, le_ones w h))))
 
-pub type_in_bool : (n : ℕ) (r : Interval) → n < 2 → type_interval ty.Bool ≡ some r → (pos n) ∈ r
+pub type_in_bool : (n : ℕ) (r : Interval) → n < 2 → type_interval ty.Bool ≡ Some r → (pos n) ∈ r
 type_in_bool n r h = given (◌∈◌ (pos n)) (just (omega orders))
 
-pub sign_extended_in : (w : ℕ) (r : Interval) (z : ℤ) → mag z < 2 ^ (w - 1) → sign_extended w ≡ some r → z ∈ r
+pub sign_extended_in : (w : ℕ) (r : Interval) (z : ℤ) → mag z < 2 ^ (w - 1) → sign_extended w ≡ Some r → z ∈ r
 unfolding sign_extended
 sign_extended_in w r z h = given (◌∈◌ z) (tested (ltb 0 w && ltb w 128) _ (λ t. just (half z h)))
   where

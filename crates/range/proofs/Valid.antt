@@ -2,7 +2,7 @@
 use mathlib.Core.Path.{◌≡◌, refl, subst}
 use mathlib.Core.Bool.{Bool, true, false, ◌&&◌, ◌||◌}
 use mathlib.Core.Logic.{⊎_elim}
-use mathlib.Core.Option.{Option, some}
+use Rattle.std.specs.Prelude.{Option, Some}
 use Prim.Native.Nat.{ℕ, ◌-◌, ◌^◌, ◌<◌}
 use native.Mathlib.Omega.{arith}
 use borrow.Author.Tests.{le-leb}
@@ -51,27 +51,27 @@ natural a f h = by a.low refl h
     by (pos n) e h = (n, subst (λ (z : ℤ). z ∈ a) e (low_in f))
     by (negsuc n) e h = absurd (omega orders)
 
-pub neg_full : (a r : Interval) → a.low ≤ℤ a.high → neg_interval a ≡ some r → r.low ≤ℤ r.high
+pub neg_full : (a r : Interval) → a.low ≤ℤ a.high → neg_interval a ≡ Some r → r.low ≤ℤ r.high
 neg_full a r f e = holds (neg_in a r a.low (low_in f) e)
 
 module _ (a b r : Interval) (f : a.low ≤ℤ a.high) (g : b.low ≤ℤ b.high) where
-  pub add_full : add_interval a b ≡ some r → r.low ≤ℤ r.high
+  pub add_full : add_interval a b ≡ Some r → r.low ≤ℤ r.high
   add_full e = holds (add_in a b r a.low b.low (low_in f) (low_in g) e)
 
-  pub sub_full : sub_interval a b ≡ some r → r.low ≤ℤ r.high
+  pub sub_full : sub_interval a b ≡ Some r → r.low ≤ℤ r.high
   sub_full e = holds (sub_in a b r a.low b.low (low_in f) (low_in g) e)
 
-  pub mul_full : mul_interval a b ≡ some r → r.low ≤ℤ r.high
+  pub mul_full : mul_interval a b ≡ Some r → r.low ≤ℤ r.high
   mul_full e = holds (mul_in a b r a.low b.low (low_in f) (low_in g) e)
 
-  pub quot_full : quot_interval a b ≡ some r → r.low ≤ℤ r.high
+  pub quot_full : quot_interval a b ≡ Some r → r.low ≤ℤ r.high
   quot_full e = holds (quot_in a b r a.low b.low (low_in f) (low_in g) e)
 
-  pub rem_full : rem_interval a b ≡ some r → r.low ≤ℤ r.high
+  pub rem_full : rem_interval a b ≡ Some r → r.low ≤ℤ r.high
   rem_full e = holds (rem_in a b r a.low b.low (low_in f) (low_in g) e)
 
   -- numbers in both, for a rule that needs ranges that are not negative
-  naturals : (o : Option Interval) → provided (nonnegative a && nonnegative b) o ≡ some r
+  naturals : (o : Option Interval) → provided (nonnegative a && nonnegative b) o ≡ Some r
       → (m : ℕ) × (n : ℕ) × ((pos m) ∈ a) × ((pos n) ∈ b)
   naturals o e =
       let d = tests (nonnegative a) (nonnegative b) (provided_is _ o e).0 in
@@ -80,7 +80,7 @@ module _ (a b r : Interval) (f : a.low ≤ℤ a.high) (g : b.low ≤ℤ b.high) 
       (m, n, h, k)
 
   -- the same, and a divisor above 0
-  divisors : (o : Option Interval) → provided (nonnegative a && lt_z (pos 0) b.low) o ≡ some r
+  divisors : (o : Option Interval) → provided (nonnegative a && lt_z (pos 0) b.low) o ≡ Some r
       → (m : ℕ) × (n : ℕ) × ((pos m) ∈ a) × ((pos n) ∈ b)
   divisors o e =
       let d = tests (nonnegative a) (lt_z (pos 0) b.low) (provided_is _ o e).0 in
@@ -88,28 +88,28 @@ module _ (a b r : Interval) (f : a.low ≤ℤ a.high) (g : b.low ≤ℤ b.high) 
       let (n, k) = natural b g (omega (orders, less_true (pos 0) b.low d.1)) in
       (m, n, h, k)
 
-  pub and_full : and_interval a b ≡ some r → r.low ≤ℤ r.high
+  pub and_full : and_interval a b ≡ Some r → r.low ≤ℤ r.high
   unfolding and_interval
   and_full e = let (m, n, h, k) = naturals _ e in holds (and_in a b r m n h k e)
 
-  pub udiv_full : udiv_interval a b ≡ some r → r.low ≤ℤ r.high
+  pub udiv_full : udiv_interval a b ≡ Some r → r.low ≤ℤ r.high
   unfolding udiv_interval
   udiv_full e = let (m, n, h, k) = divisors _ e in holds (udiv_in a b r m n h k e)
 
-  pub urem_full : urem_interval a b ≡ some r → r.low ≤ℤ r.high
+  pub urem_full : urem_interval a b ≡ Some r → r.low ≤ℤ r.high
   unfolding urem_interval
   urem_full e = let (m, n, h, k) = divisors _ e in holds (urem_in a b r m n h k e)
 
-  pub shl_full : shl_interval a b ≡ some r → r.low ≤ℤ r.high
+  pub shl_full : shl_interval a b ≡ Some r → r.low ≤ℤ r.high
   unfolding shl_interval
   shl_full e = let (m, n, h, k) = naturals _ e in holds (shl_in a b r m n h k e)
 
-  pub shr_full : mag a.low < 2 ^ 127 → shr_interval a b ≡ some r → r.low ≤ℤ r.high
+  pub shr_full : mag a.low < 2 ^ 127 → shr_interval a b ≡ Some r → r.low ≤ℤ r.high
   unfolding shr_interval
   shr_full small e = let (m, n, h, k) = naturals _ e in holds (shr_in a b r m n small h k e)
 
 -- the integers of w bits in two's complement
-pub extended_full : (w : ℕ) (r : Interval) → sign_extended w ≡ some r → r.low ≤ℤ r.high
+pub extended_full : (w : ℕ) (r : Interval) → sign_extended w ≡ Some r → r.low ≤ℤ r.high
 unfolding sign_extended
 extended_full w r e =
     let h : neg_ℤ (pos (2 ^ (w - 1))) ≤ℤ pos (2 ^ (w - 1) - 1) = omega (orders, neg_parts (pos (2 ^ (w - 1)))) in
@@ -124,10 +124,10 @@ integer_valid h = record { full = h; inside = refl }
 pub point_inside : (w n : ℕ) → n < 2 ^ w → inside_bits w (point (pos n)) ≡ true
 point_inside w n h = rw (le-leb 0 n (omega arith), le-leb n (2 ^ w - 1) (le_ones w h)) (one_true (leb 128 w))
 
-pub filtered_valid : (w : ℕ) (a r : Interval) → a.low ≤ℤ a.high → filtered w a ≡ some r → Valid (ty.Bits w) r
+pub filtered_valid : (w : ℕ) (a r : Interval) → a.low ≤ℤ a.high → filtered w a ≡ Some r → Valid (ty.Bits w) r
 unfolding filtered
 filtered_valid w a r f e =
-    let p = provided_is _ (some a) e in
+    let p = provided_is _ (Some a) e in
     let d = tests (nonnegative a) _ (tests (ltb w 128) _ p.0).1 in
     subst (Valid (ty.Bits w)) (some_is p.1) (record { full = f; inside = rw (d.0, d.1) (one_true (leb 128 w)) })
 
@@ -151,7 +151,7 @@ part_valid t a b v low full high = record { full = full; inside = by t v.inside 
     by (ty.Bits w) e = bits w e
     by ty.Integer e = refl
 
-pub type_valid : (t : ScalarType) (a : Interval) → type_interval t ≡ some a → Valid t a
+pub type_valid : (t : ScalarType) (a : Interval) → type_interval t ≡ Some a → Valid t a
 unfolding bits_interval
 type_valid ty.Bool a e = subst (Valid ty.Bool) (some_is e) (record { full = omega orders; inside = refl })
 type_valid (ty.Bits w) a e =

@@ -1,12 +1,10 @@
 -- Intervals of integers: what a range stands for, the interval of a type, and the range rules of native.rs.
 use Rattle.std.specs.Prelude.{Bool, true, not, ◌&&◌, ◌||◌, ℕ, min, ◌-◌, ◌^◌, leb, ltb, ℤ, pos, negsuc, nat_abs, neg_ℤ, ◌+ℤ◌, ◌-ℤ◌, ◌*ℤ◌, ◌≤ℤ◌}
-use Rattle.std.proofs.Math.Option.{Option, none, some}
+use Rattle.std.specs.Prelude.{Option, None, Some}
 use Rattle.std.specs.Int.Signed.{lt_z, le_z, shr_z}
 use Rattle.word.specs.Value.{int_of, fitted, min_z, max_z, eq_z, quotient}
 use Rattle.word.specs.Option.{only, provided}
 use Rattle.range.specs.declared.Range.{Range}
-use Rattle.range.specs.declared.MaybeRange.{MaybeRange}
-use Rattle.range.specs.declared.MaybeRange.TheVariants as range
 use Rattle.range.specs.declared.ScalarType.{ScalarType}
 use Rattle.range.specs.declared.ScalarType.TheVariants as ty
 
@@ -25,10 +23,10 @@ pub record ◌∈◌ (z : ℤ) (a : Interval) : Type 0 where
 abbrev pub bounds_of : Range → Interval
 bounds_of r = record { low = int_of r.min; high = int_of r.max }
 
--- what a MaybeRange stands for
-abbrev pub interval_of : MaybeRange → Option Interval
-interval_of (range.Some r) = some (bounds_of r)
-interval_of range.None = none
+-- what a Option Range stands for
+abbrev pub interval_of : Option Range → Option Interval
+interval_of (Some r) = Some (bounds_of r)
+interval_of None = None
 
 -- z alone
 abbrev pub point : ℤ → Interval
@@ -54,9 +52,9 @@ bits_interval w = only (ltb w 128) (record { low = pos 0; high = pos (2 ^ w - 1)
 
 -- Bool: 0 to 1; Integer: none
 abbrev pub type_interval : ScalarType → Option Interval
-type_interval ty.Bool = some (record { low = pos 0; high = pos 1 })
+type_interval ty.Bool = Some (record { low = pos 0; high = pos 1 })
 type_interval (ty.Bits w) = bits_interval w
-type_interval ty.Integer = none
+type_interval ty.Integer = None
 
 -- is a inside Bits(w)? Bits are not negative, and Bits(128) have no other bound
 abbrev pub inside_bits : ℕ → Interval → Bool
@@ -80,9 +78,9 @@ sign_extended w = only (ltb 0 w && ltb w 128) (record { low = neg_ℤ (pos (2 ^ 
 
 -- from one result to the other, if both are there
 abbrev pub between : Option ℤ → Option ℤ → Option Interval
-between none h = none
-between (some l) none = none
-between (some l) (some h) = some (record { low = l; high = h })
+between None h = None
+between (Some l) None = None
+between (Some l) (Some h) = Some (record { low = l; high = h })
 
 -- Add: the sums of the minima and of the maxima
 unfoldable pub add_interval : Interval → Interval → Option Interval
@@ -98,12 +96,12 @@ neg_interval a = between (fitted (neg_ℤ a.high)) (fitted (neg_ℤ a.low))
 
 -- from the least to the greatest of four results, if all are there
 abbrev pub corners_of : Option ℤ → Option ℤ → Option ℤ → Option ℤ → Option Interval
-corners_of none q r s = none
-corners_of (some p) none r s = none
-corners_of (some p) (some q) none s = none
-corners_of (some p) (some q) (some r) none = none
-corners_of (some p) (some q) (some r) (some s) =
-    some (record { low = min_z (min_z p q) (min_z r s); high = max_z (max_z p q) (max_z r s) })
+corners_of None q r s = None
+corners_of (Some p) None r s = None
+corners_of (Some p) (Some q) None s = None
+corners_of (Some p) (Some q) (Some r) None = None
+corners_of (Some p) (Some q) (Some r) (Some s) =
+    Some (record { low = min_z (min_z p q) (min_z r s); high = max_z (max_z p q) (max_z r s) })
 
 -- Mul: the products at the four corners
 unfoldable pub mul_interval : Interval → Interval → Option Interval
@@ -127,9 +125,9 @@ cut a m = record { low = min_z (max_z a.low (pos 1 -ℤ m)) (pos 0); high = max_
 
 -- a cut to the larger of two sizes, if both are there
 abbrev pub cut_to : Interval → Option ℤ → Option ℤ → Option Interval
-cut_to a none n = none
-cut_to a (some m) none = none
-cut_to a (some m) (some n) = some (cut a (max_z m n))
+cut_to a None n = None
+cut_to a (Some m) None = None
+cut_to a (Some m) (Some n) = Some (cut a (max_z m n))
 
 -- RemainderSigned: below the largest divisor in size
 unfoldable pub rem_interval : Interval → Interval → Option Interval
@@ -137,20 +135,20 @@ rem_interval a b = provided (divisible a b) (cut_to a (fitted (pos (nat_abs b.lo
 
 -- And of non-negative ranges: 0 to the lesser maximum
 unfoldable pub and_interval : Interval → Interval → Option Interval
-and_interval a b = provided (nonnegative a && nonnegative b) (between (some (pos 0)) (some (min_z a.high b.high)))
+and_interval a b = provided (nonnegative a && nonnegative b) (between (Some (pos 0)) (Some (min_z a.high b.high)))
 
 -- DivideUnsigned of a non-negative range by a positive one: 0 to the largest quotient
 unfoldable pub udiv_interval : Interval → Interval → Option Interval
-udiv_interval a b = provided (nonnegative a && lt_z (pos 0) b.low) (between (some (pos 0)) (quotient a.high b.low))
+udiv_interval a b = provided (nonnegative a && lt_z (pos 0) b.low) (between (Some (pos 0)) (quotient a.high b.low))
 
 -- the lesser of z and an answer
 abbrev pub at_most : ℤ → Option ℤ → Option ℤ
-at_most z none = none
-at_most z (some m) = some (min_z z m)
+at_most z None = None
+at_most z (Some m) = Some (min_z z m)
 
 -- RemainderUnsigned of the same: 0 to the lesser of the maximum and the largest divisor less 1
 unfoldable pub urem_interval : Interval → Interval → Option Interval
-urem_interval a b = provided (nonnegative a && lt_z (pos 0) b.low) (between (some (pos 0)) (at_most a.high (fitted (b.high -ℤ pos 1))))
+urem_interval a b = provided (nonnegative a && lt_z (pos 0) b.low) (between (Some (pos 0)) (at_most a.high (fitted (b.high -ℤ pos 1))))
 
 -- a shift's amount, at most 128
 unfoldable pub clamped : ℤ → ℕ

@@ -4,27 +4,27 @@ ghost use Rattle.std.proofs.Math.Option.{some};
 ghost use Rattle.word.specs.Value.{int_of, value_of, is_neg};
 ghost use Rattle.range.specs.Interval.{bounds_of, interval_of, between, add_interval, sub_interval, neg_interval, and_interval, udiv_interval, urem_interval, rem_interval, shl_interval, shr_interval, clamped, shifted, cut};
 
-use crate::{MaybeRange, Range};
-use word::{MaybeSigned, Signed, Word};
+use crate::Range;
+use word::{Signed, Word};
 
 // The range between two results, if both are there.
-pub fn between(low: MaybeSigned, high: MaybeSigned) -> MaybeRange
+pub fn between(low: Option<Signed>, high: Option<Signed>) -> Option<Range>
     ensures { interval_of result ≡ between (value_of low) (value_of high) }
 {
-    let MaybeSigned::Some(min) = low else {
-        return MaybeRange::None;
+    let Some(min) = low else {
+        return None;
     };
-    let MaybeSigned::Some(max) = high else {
-        return MaybeRange::None;
+    let Some(max) = high else {
+        return None;
     };
-    MaybeRange::Some(Range { min: min, max: max })
+    Some(Range { min: min, max: max })
 }
 
 // The range from 0 up.
-pub(crate) fn up_to(high: MaybeSigned) -> MaybeRange
+pub(crate) fn up_to(high: Option<Signed>) -> Option<Range>
     ensures { interval_of result ≡ between (some (pos 0)) (value_of high) }
 {
-    between(MaybeSigned::Some(Signed { lo: 0, hi: 0 }), high)
+    between(Some(Signed { lo: 0, hi: 0 }), high)
 }
 
 // A shift by a range's bound, at most 128.
@@ -41,7 +41,7 @@ fn clamped_amount(bound: Signed) -> u32
 }
 
 // value * 2^amount, where it and 2^amount fit.
-fn shifted(value: Signed, amount: Signed) -> MaybeSigned
+fn shifted(value: Signed, amount: Signed) -> Option<Signed>
     ensures { value_of result ≡ shifted (int_of value) (int_of amount) }
 {
     let bits = clamped_amount(amount);
@@ -49,12 +49,12 @@ fn shifted(value: Signed, amount: Signed) -> MaybeSigned
         let one = Word { lo: 1, hi: 0 };
         value.checked_mul(one.unbounded_shl(bits).as_signed())
     } else {
-        MaybeSigned::None
+        None
     }
 }
 
 impl Range {
-    pub fn add(self, other: Range) -> MaybeRange
+    pub fn add(self, other: Range) -> Option<Range>
         ensures { interval_of result ≡ add_interval (bounds_of self) (bounds_of other) }
     {
         let low = self.min;
@@ -62,7 +62,7 @@ impl Range {
         between(low.checked_add(other.min), high.checked_add(other.max))
     }
 
-    pub fn sub(self, other: Range) -> MaybeRange
+    pub fn sub(self, other: Range) -> Option<Range>
         ensures { interval_of result ≡ sub_interval (bounds_of self) (bounds_of other) }
     {
         let low = self.min;
@@ -70,7 +70,7 @@ impl Range {
         between(low.checked_sub(other.max), high.checked_sub(other.min))
     }
 
-    pub fn negate(self) -> MaybeRange
+    pub fn negate(self) -> Option<Range>
         ensures { interval_of result ≡ neg_interval (bounds_of self) }
     {
         let low = self.min;
@@ -78,17 +78,17 @@ impl Range {
         between(high.checked_neg(), low.checked_neg())
     }
 
-    pub fn and(self, other: Range) -> MaybeRange
+    pub fn and(self, other: Range) -> Option<Range>
         ensures { interval_of result ≡ and_interval (bounds_of self) (bounds_of other) }
     {
         if self.is_nonnegative() && other.is_nonnegative() {
             let high = self.max;
-            return up_to(MaybeSigned::Some(high.min(other.max)));
+            return up_to(Some(high.min(other.max)));
         }
-        MaybeRange::None
+        None
     }
 
-    pub fn divide_unsigned(self, other: Range) -> MaybeRange
+    pub fn divide_unsigned(self, other: Range) -> Option<Range>
         ensures { interval_of result ≡ udiv_interval (bounds_of self) (bounds_of other) }
     {
         let zero = Signed { lo: 0, hi: 0 };
@@ -96,43 +96,43 @@ impl Range {
             let high = self.max;
             return up_to(high.checked_div(other.min));
         }
-        MaybeRange::None
+        None
     }
 
-    pub fn remainder_unsigned(self, other: Range) -> MaybeRange
+    pub fn remainder_unsigned(self, other: Range) -> Option<Range>
         ensures { interval_of result ≡ urem_interval (bounds_of self) (bounds_of other) }
     {
         let zero = Signed { lo: 0, hi: 0 };
         if self.is_nonnegative() && zero.lt(other.min) {
             let divisor = other.max;
             let bound = divisor.checked_sub(Signed { lo: 1, hi: 0 });
-            let MaybeSigned::Some(most) = bound else {
-                return MaybeRange::None;
+            let Some(most) = bound else {
+                return None;
             };
             let high = self.max;
-            return up_to(MaybeSigned::Some(high.min(most)));
+            return up_to(Some(high.min(most)));
         }
-        MaybeRange::None
+        None
     }
 
     // Every remainder is below the largest divisor in size, and no further from 0 than the dividend.
-    pub fn remainder_signed(self, other: Range) -> MaybeRange
+    pub fn remainder_signed(self, other: Range) -> Option<Range>
         ensures { interval_of result ≡ rem_interval (bounds_of self) (bounds_of other) }
     {
         if !self.is_divisible(other) {
-            return MaybeRange::None;
+            return None;
         }
         let low = other.min;
         let high = other.max;
         let first = low.checked_abs();
         let second = high.checked_abs();
-        let MaybeSigned::Some(a) = first else {
-            return MaybeRange::None;
+        let Some(a) = first else {
+            return None;
         };
-        let MaybeSigned::Some(b) = second else {
-            return MaybeRange::None;
+        let Some(b) = second else {
+            return None;
         };
-        MaybeRange::Some(self.cut(a.max(b)))
+        Some(self.cut(a.max(b)))
     }
 
     // The part with less than this size, stretched to 0.
@@ -150,26 +150,26 @@ impl Range {
         }
     }
 
-    pub fn shift_left(self, other: Range) -> MaybeRange
+    pub fn shift_left(self, other: Range) -> Option<Range>
         ensures { interval_of result ≡ shl_interval (bounds_of self) (bounds_of other) }
     {
         if self.is_nonnegative() && other.is_nonnegative() {
             return between(shifted(self.min, other.min), shifted(self.max, other.max));
         }
-        MaybeRange::None
+        None
     }
 
-    pub fn shift_right(self, other: Range) -> MaybeRange
+    pub fn shift_right(self, other: Range) -> Option<Range>
         ensures { interval_of result ≡ shr_interval (bounds_of self) (bounds_of other) }
     {
         if self.is_nonnegative() && other.is_nonnegative() {
             let low = self.min;
             let high = self.max;
-            return MaybeRange::Some(Range {
+            return Some(Range {
                 min: low.unbounded_shr(clamped_amount(other.max)),
                 max: high.unbounded_shr(clamped_amount(other.min)),
             });
         }
-        MaybeRange::None
+        None
     }
 }

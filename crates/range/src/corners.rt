@@ -6,8 +6,8 @@ ghost use Rattle.range.specs.Interval.{bounds_of, interval_of, mul_interval, quo
 ghost use Rattle.range.specs.Step.{span_of};
 
 use crate::arithmetic::{between, up_to};
-use crate::{MaybeRange, Range};
-use word::{MaybeSigned, Signed};
+use crate::Range;
+use word::Signed;
 
 // The results at the corners of two ranges.
 #[derive(Clone, Copy)]
@@ -40,29 +40,29 @@ impl Corners {
 
 // From the least to the greatest of four results, if all are there.
 fn span_of(
-    first: MaybeSigned,
-    second: MaybeSigned,
-    third: MaybeSigned,
-    fourth: MaybeSigned,
-) -> MaybeRange
+    first: Option<Signed>,
+    second: Option<Signed>,
+    third: Option<Signed>,
+    fourth: Option<Signed>,
+) -> Option<Range>
     ensures { interval_of result ≡ corners_of (value_of first) (value_of second) (value_of third) (value_of fourth) }
 {
-    let MaybeSigned::Some(a) = first else {
-        return MaybeRange::None;
+    let Some(a) = first else {
+        return None;
     };
-    let MaybeSigned::Some(b) = second else {
-        return MaybeRange::None;
+    let Some(b) = second else {
+        return None;
     };
-    let MaybeSigned::Some(c) = third else {
-        return MaybeRange::None;
+    let Some(c) = third else {
+        return None;
     };
-    let MaybeSigned::Some(d) = fourth else {
-        return MaybeRange::None;
+    let Some(d) = fourth else {
+        return None;
     };
     let corners = Corners {
         values: [a, b, c, d],
     };
-    MaybeRange::Some(corners.span())
+    Some(corners.span())
 }
 
 impl Range {
@@ -79,7 +79,7 @@ impl Range {
         }
     }
 
-    pub fn mul(self, other: Range) -> MaybeRange
+    pub fn mul(self, other: Range) -> Option<Range>
         ensures { interval_of result ≡ mul_interval (bounds_of self) (bounds_of other) }
     {
         let a = self.min;
@@ -136,11 +136,11 @@ impl Range {
     }
 
     // Two corners decide between rising ranges, and there are only two where one divisor is possible.
-    pub fn divide_signed(self, other: Range) -> MaybeRange
+    pub fn divide_signed(self, other: Range) -> Option<Range>
         ensures { interval_of result ≡ quot_interval (bounds_of self) (bounds_of other) }
     {
         if !self.is_divisible(other) {
-            return MaybeRange::None;
+            return None;
         }
         let a = self.min;
         let b = self.max;

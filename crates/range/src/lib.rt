@@ -25,12 +25,6 @@ pub struct Range {
     pub max: Signed,
 }
 
-#[derive(Clone, Copy)]
-pub enum MaybeRange {
-    Some(Range),
-    None,
-}
-
 impl Range {
     pub fn singleton(value: Signed) -> Range
         ensures { bounds_of result ≡ point (int_of value) }

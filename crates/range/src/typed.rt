@@ -3,7 +3,7 @@ ghost use Rattle.std.specs.Prelude.{◌≡◌, min, ◌-◌, ◌^◌};
 ghost use Rattle.word.specs.Value.{val};
 ghost use Rattle.range.specs.Interval.{bounds_of, interval_of, bits_interval, type_interval, inside_bits, inside_type, filtered, sign_extended};
 
-use crate::{MaybeRange, Range, ScalarType};
+use crate::{Range, ScalarType};
 use word::{Signed, Word};
 
 // The largest number of that many bits; from 128 on, of 128.
@@ -28,29 +28,29 @@ pub fn mask(width: u16) -> Word
 }
 
 // From 0 to the largest number of that many bits.
-fn bits_range(width: u16) -> MaybeRange
+fn bits_range(width: u16) -> Option<Range>
     ensures { interval_of result ≡ bits_interval width }
 {
     if width < 128 {
-        MaybeRange::Some(Range {
+        Some(Range {
             min: Signed { lo: 0, hi: 0 },
             max: mask(width).as_signed(),
         })
     } else {
-        MaybeRange::None
+        None
     }
 }
 
-pub fn type_range(ty: ScalarType) -> MaybeRange
+pub fn type_range(ty: ScalarType) -> Option<Range>
     ensures { interval_of result ≡ type_interval ty }
 {
     match ty {
-        ScalarType::Bool => MaybeRange::Some(Range {
+        ScalarType::Bool => Some(Range {
             min: Signed { lo: 0, hi: 0 },
             max: Signed { lo: 1, hi: 0 },
         }),
         ScalarType::Bits(width) => bits_range(width),
-        ScalarType::Integer => MaybeRange::None,
+        ScalarType::Integer => None,
     }
 }
 
@@ -83,29 +83,29 @@ impl Range {
     }
 
     // The range as that of a result in Bits(width), where it lies inside the type.
-    pub fn filtered(self, width: u16) -> MaybeRange
+    pub fn filtered(self, width: u16) -> Option<Range>
         ensures { interval_of result ≡ filtered width (bounds_of self) }
     {
         let max = self.max;
         if width < 128 {
             if self.is_nonnegative() {
                 if max.le(mask(width).as_signed()) {
-                    return MaybeRange::Some(self);
+                    return Some(self);
                 }
             }
         }
-        MaybeRange::None
+        None
     }
 
     // What an Integer sign-extended from Bits(width) can be.
-    pub fn sign_extended(width: u16) -> MaybeRange
+    pub fn sign_extended(width: u16) -> Option<Range>
         ensures { interval_of result ≡ sign_extended width }
     {
         if width == 0 || 128 <= width {
-            return MaybeRange::None;
+            return None;
         }
         let max = mask(width - 1).as_signed();
-        MaybeRange::Some(Range {
+        Some(Range {
             min: max.not(),
             max: max,
         })

@@ -2,7 +2,7 @@
 -- Assumes nothing.
 use mathlib.Core.Bool.{Bool, true, false}
 use mathlib.Core.List.{List, ◌++◌}
-use mathlib.Core.Option.{Option, none, some}
+use Rattle.std.specs.Prelude.{Option, None, Some}
 use mathlib.Core.Path.{◌≡◌, refl, ◌∙◌}
 use Prim.Native.Nat.{ℕ, ◌+◌, ◌-◌, ◌^◌, ◌≤◌, ◌<◌}
 use native.Mathlib.Omega.{arith}
@@ -47,10 +47,10 @@ numbered-put d w n {r} {s} room p q e =
 -- ---- records
 
 -- a record that has a tag has a header
-pub tag_header : (bs : List ℕ) {t : ℕ} → tag_in bs ≡ some t → HEADER ≤ length bs
+pub tag_header : (bs : List ℕ) {t : ℕ} → tag_in bs ≡ Some t → HEADER ≤ length bs
 tag_header bs {t} e = by (leb HEADER (length bs)) (only (eqb (body_length bs) (length bs - HEADER)) (get_or bs 0 0)) refl e
   where
-    by : (b : Bool) (o : Option ℕ) → leb HEADER (length bs) ≡ b → provided b o ≡ some t → HEADER ≤ length bs
+    by : (b : Bool) (o : Option ℕ) → leb HEADER (length bs) ≡ b → provided b o ≡ Some t → HEADER ≤ length bs
     by true o f h = leb-true HEADER (length bs) f
     by false o f h = let z : ◌≡◌ {A = ℕ} 0 1 = cc in absurd (omega arith)
 
@@ -79,9 +79,9 @@ bad_step out g m p = rw (p.0, p.1)
 done_in_graph : (g m : List ℕ) (o : Option Asked) → is_graph g ≡ true
     → done_by (request_call g) (retain_call g) g m o ≡ done_by (request_in_graph g) (retain_in_graph g) g m o
 unfolding done_by request_call retain_call
-done_in_graph g m none e = refl
-done_in_graph g m (some (request q)) e = rw e
-done_in_graph g m (some (retain bs)) e = rw e
+done_in_graph g m None e = refl
+done_in_graph g m (Some (request q)) e = rw e
+done_in_graph g m (Some (retain bs)) e = rw e
 
 pub record_in_graph_lem : (g m bs out : List ℕ) → is_graph g ≡ true → record_in_graph g m bs out ≡ record_call g m bs out
 unfolding record_in_graph record_call effect_in_graph effect_call
@@ -91,9 +91,9 @@ record_in_graph_lem g m bs out e = rw (done_in_graph g m (asked bs) e)
 done_refused : (g m : List ℕ) (o : Option Asked) → is_graph g ≡ false → is_some o ≡ true
     → done_by (request_call g) (retain_call g) g m o ≡ says (numbered REFUSED (refusal_number no.Graph)) g m
 unfolding done_by request_call retain_call
-done_refused g m none e s = let z : ◌≡◌ {A = ℕ} 0 1 = cc in absurd (omega arith)
-done_refused g m (some (request q)) e s = rw e
-done_refused g m (some (retain bs)) e s = rw (e, take-append-drop)
+done_refused g m None e s = let z : ◌≡◌ {A = ℕ} 0 1 = cc in absurd (omega arith)
+done_refused g m (Some (request q)) e s = rw e
+done_refused g m (Some (retain bs)) e s = rw (e, take-append-drop)
 
 pub record_refused : (g m bs out : List ℕ) {n : ℕ} {o : List ℕ} → is_graph g ≡ false → is_some (asked bs) ≡ true → LINE ≤ length out
     → (n ≡ length (numbered REFUSED (refusal_number no.Graph))) × (o ≡ placed out 0 (numbered REFUSED (refusal_number no.Graph)))
@@ -104,8 +104,8 @@ record_refused g m bs out e s room p = rw (le-leb LINE (length out) room, done_r
 -- a bad record comes before question 1
 done_bad : (g m : List ℕ) (o : Option Asked) → is_some o ≡ false → done_by (request_call g) (retain_call g) g m o ≡ ends_bad g m
 unfolding done_by
-done_bad g m none s = refl
-done_bad g m (some a) s = let z : ◌≡◌ {A = ℕ} 0 1 = cc in absurd (omega arith)
+done_bad g m None s = refl
+done_bad g m (Some a) s = let z : ◌≡◌ {A = ℕ} 0 1 = cc in absurd (omega arith)
 
 pub record_bad : (g m bs out : List ℕ) {n : ℕ} {o : List ℕ} → is_some (asked bs) ≡ false → LINE ≤ length out
     → (n ≡ length BAD) × (o ≡ placed out 0 BAD) → left (ends n) g m o ≡ record_call g m bs out

@@ -1,6 +1,6 @@
 -- One record: the call that it asks for, its line, and whether reading goes on.
 use Rattle.std.specs.Prelude.{Bool, true, false, cond, List, ◌++◌, ℕ, min, leb, length, take, drop}
-use Rattle.std.proofs.Math.Option.{Option, none, some}
+use Rattle.std.specs.Prelude.{Option, None, Some}
 use Rattle.text.specs.Text.{placed}
 use Rattle.graph.specs.Layout.{count_of}
 use Rattle.request.specs.Request.{Request}
@@ -59,9 +59,9 @@ widened k m r = retention r.outcome r.words (r.mapping ++ drop k m)
 
 -- what is asked for, done by these two calls; none is a bad record
 unfoldable pub done_by : (Request → Called) → (List ℕ → List ℕ → Retention) → List ℕ → List ℕ → Option Asked → Effect
-done_by call keep g m none = ends_bad g m
-done_by call keep g m (some (request q)) = answered (call q) m
-done_by call keep g m (some (retain bs)) = kept_line (widened (lent_words g m) m (keep bs (take (lent_words g m) m)))
+done_by call keep g m None = ends_bad g m
+done_by call keep g m (Some (request q)) = answered (call q) m
+done_by call keep g m (Some (retain bs)) = kept_line (widened (lent_words g m) m (keep bs (take (lent_words g m) m)))
 
 -- a record on a graph
 unfoldable pub effect_in_graph : List ℕ → List ℕ → List ℕ → Effect

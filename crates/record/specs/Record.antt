@@ -1,6 +1,6 @@
 -- The records of the program: tag, length and body, and what they ask for.
 use Rattle.std.specs.Prelude.{cond, List, [], ◌∷◌, ℕ, ◌+◌, ◌-◌, ◌*◌, ◌<◌, eqb, leb, length, get_or, take, drop}
-use Rattle.std.proofs.Math.Option.{Option, none, some}
+use Rattle.std.specs.Prelude.{Option, None, Some}
 use Rattle.word.specs.Option.{provided, only, mapped, given}
 use Rattle.range.specs.declared.ScalarType.{ScalarType}
 use Rattle.evaluate.specs.declared.Unary.{Unary}
@@ -9,27 +9,19 @@ use Rattle.graph.specs.Node.{range_of}
 use Rattle.request.specs.Codes.{type_by_code, unary_by_code, binary_by_code, truth_by_number}
 use Rattle.request.specs.Request as asks
 use Rattle.request.specs.Request.{Request, request_of}
-use Rattle.record.specs.declared.decode.MaybeRequest.{MaybeRequest}
+use Rattle.record.specs.declared.decode.MaybeRequest.{Option Request}
 use Rattle.record.specs.declared.decode.MaybeRequest.TheVariants as named
 use Rattle.record.specs.declared.perform.MaybeTag.{MaybeTag}
 use Rattle.record.specs.declared.perform.MaybeTag.TheVariants as tags
-use Rattle.record.specs.declared.perform.MaybeLength.{MaybeLength}
+use Rattle.record.specs.declared.perform.MaybeLength.{Option ℕ}
 use Rattle.record.specs.declared.perform.MaybeLength.TheVariants as lengths
 
--- what a MaybeRequest stands for
-abbrev pub named_of : MaybeRequest → Option Request
-named_of (named.Some q) = some (request_of q)
-named_of named.None = none
+-- what a Option Request stands for
+abbrev pub named_of : Option Request → Option Request
+named_of (named.Some q) = Some (request_of q)
+named_of named.None = None
 
--- what a MaybeTag stands for
-abbrev pub tag_of : MaybeTag → Option ℕ
-tag_of (tags.Some t) = some t
-tag_of tags.None = none
 
--- what a MaybeLength stands for
-abbrev pub length_of : MaybeLength → Option ℕ
-length_of (lengths.Some n) = some n
-length_of lengths.None = none
 
 -- ---- fields: each is split off, and the rest of the record is handed on; where one is wrong or missing there is nothing
 
@@ -64,7 +56,7 @@ type_in bs = type_by_code (get_or bs 0 0) (get_or bs 1 0)
 
 -- a type, and what the rest says with it
 abbrev pub type_field : {A : Type 0} → List ℕ → (ScalarType → List ℕ → Option A) → Option A
-type_field bs f = provided (leb 2 (length bs)) (given (type_in bs) (λ t. f t (drop 2 bs)) none)
+type_field bs f = provided (leb 2 (length bs)) (given (type_in bs) (λ t. f t (drop 2 bs)) None)
 
 -- ---- the bodies
 
@@ -86,11 +78,11 @@ input_minimum i t bs = field 16 bs (input_maximum i t)
 
 -- without a range nothing is left
 abbrev pub input_plain : ℕ → ScalarType → List ℕ → Option Request
-input_plain i t bs = only (eqb (length bs) 0) (asks.input i t none)
+input_plain i t bs = only (eqb (length bs) 0) (asks.input i t None)
 
 -- flag 1
 abbrev pub input_flag : ℕ → ScalarType → List ℕ → Option Request
-input_flag i t bs = byte_field bs (λ flag rest. cond (eqb flag 0) (input_plain i t rest) (cond (eqb flag 1) (input_minimum i t rest) none))
+input_flag i t bs = byte_field bs (λ flag rest. cond (eqb flag 0) (input_plain i t rest) (cond (eqb flag 1) (input_minimum i t rest) None))
 
 -- type 1, width 1
 abbrev pub input_type : ℕ → List ℕ → Option Request
@@ -114,7 +106,7 @@ unary_id t o bs = last_field 2 bs (asks.unary t o)
 
 -- operator 1, parameter 1
 abbrev pub unary_operator : ScalarType → List ℕ → Option Request
-unary_operator t bs = provided (leb 2 (length bs)) (given (unary_by_code (get_or bs 0 0) (get_or bs 1 0)) (λ o. unary_id t o (drop 2 bs)) none)
+unary_operator t bs = provided (leb 2 (length bs)) (given (unary_by_code (get_or bs 0 0) (get_or bs 1 0)) (λ o. unary_id t o (drop 2 bs)) None)
 
 -- 4 unary: type 1, width 1
 abbrev pub unary_body : List ℕ → Option Request
@@ -130,7 +122,7 @@ binary_left t o bs = field 2 bs (binary_right t o)
 
 -- operator 1
 abbrev pub binary_operator : ScalarType → List ℕ → Option Request
-binary_operator t bs = byte_field bs (λ code rest. given (binary_by_code code) (λ o. binary_left t o rest) none)
+binary_operator t bs = byte_field bs (λ code rest. given (binary_by_code code) (λ o. binary_left t o rest) None)
 
 -- 5 binary: type 1, width 1
 abbrev pub binary_body : List ℕ → Option Request
@@ -195,7 +187,7 @@ request_in tag bs =
     (cond (eqb tag 6) (slice_body bs)
     (cond (eqb tag 7) (concat_body bs)
     (cond (eqb tag 8) (range_body bs)
-    (cond (eqb tag 9) (guard_body bs) none))))))))
+    (cond (eqb tag 9) (guard_body bs) None))))))))
 
 -- ---- records
 
@@ -210,7 +202,7 @@ pub data Asked : Type 0 where
 
 -- 10 retain: a byte for each node
 abbrev pub asked_in : ℕ → List ℕ → Option Asked
-asked_in tag bs = cond (eqb tag RETAIN) (some (retain bs)) (mapped request (request_in tag bs))
+asked_in tag bs = cond (eqb tag RETAIN) (Some (retain bs)) (mapped request (request_in tag bs))
 
 -- bytes before the body: the tag, and the length in two
 abbrev pub HEADER : ℕ
@@ -226,7 +218,7 @@ tag_in bs = provided (leb HEADER (length bs)) (only (eqb (body_length bs) (lengt
 
 -- what a whole record asks for: a tag byte, a length, a body; none of a bad record
 unfoldable pub asked : List ℕ → Option Asked
-asked bs = given (tag_in bs) (λ tag. asked_in tag (drop HEADER bs)) none
+asked bs = given (tag_in bs) (λ tag. asked_in tag (drop HEADER bs)) None
 
 -- how many bytes the first record of some bytes has, if it is there whole
 unfoldable pub first_length : List ℕ → Option ℕ

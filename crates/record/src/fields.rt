@@ -1,10 +1,10 @@
 // The fields of a record. A field stands at the start of a part of the record; what is left is handed on to the next reader.
 ghost use Rattle.std.specs.Prelude.{◌≡◌, ◌≤◌, length, get_or};
 ghost use Rattle.word.specs.Value.{val};
-ghost use Rattle.request.specs.Codes.{type_named, type_by_code};
+ghost use Rattle.request.specs.Codes.{type_by_code};
 ghost use Rattle.record.specs.Record.{little};
 
-use request::codes::{MaybeType, type_by_code};
+use request::codes::type_by_code;
 use word::Word;
 
 pub(crate) fn wide(byte: u8) -> u64
@@ -46,9 +46,9 @@ pub(crate) fn word_of(field: &[u8]) -> Word
 }
 
 // The type of the first two bytes: its code and its width.
-pub(crate) fn type_of(field: &[u8]) -> MaybeType
+pub(crate) fn type_of(field: &[u8]) -> Option<ScalarType>
     requires { 2 ≤ length field.now }
-    ensures { type_named result ≡ type_by_code (get_or field.now 0 0) (get_or field.now 1 0) }
+    ensures { result ≡ type_by_code (get_or field.now 0 0) (get_or field.now 1 0) }
 {
     type_by_code(wide(field[0]), wide(field[1]))
 }

@@ -5,11 +5,11 @@ ghost use Rattle.word.specs.Option.{is_some};
 ghost use Rattle.graph.specs.WellFormed.{is_graph};
 ghost use Rattle.native.specs.Perform.{request_in_graph};
 ghost use Rattle.native.specs.Retain.{outcome_of, retention, retain_in_graph};
-ghost use Rattle.record.specs.Record.{tag_of, tag_in, asked, asked_in, length_of, first_length};
+ghost use Rattle.record.specs.Record.{tag_in, asked, asked_in, first_length};
 ghost use Rattle.record.specs.Line.{LINE};
 ghost use Rattle.record.specs.Perform.{left, progress_of, lent_words, widened, done_by, written, record_in_graph, record_call};
 
-use crate::decode::{MaybeRequest, request_in};
+use crate::decode::request_in;
 use crate::fields::short_of;
 use crate::line::{LINE, put_answer, put_bad, put_refusal, put_retained};
 use answer::Refusal;
@@ -32,13 +32,6 @@ enum MaybeTag {
     None,
 }
 
-// The bytes of the first record, or none where it is not there whole.
-#[derive(Clone, Copy)]
-pub enum MaybeLength {
-    Some(usize),
-    None,
-}
-
 // What a record came to: a line of so many bytes, and reading goes on or ends; or there is no room for a line, and nothing was done.
 #[derive(Clone, Copy)]
 pub enum Step {
@@ -48,22 +41,22 @@ pub enum Step {
 }
 
 // How many bytes the first record of some bytes has.
-pub fn first_length(bytes: &[u8]) -> MaybeLength
-    ensures { length_of result ≡ first_length bytes.now }
+pub fn first_length(bytes: &[u8]) -> Option<usize>
+    ensures { result ≡ first_length bytes.now }
 {
     if bytes.len() < HEADER {
-        return MaybeLength::None;
+        return None;
     }
     let body = short_of(&bytes[1..3]) as usize;
     if bytes.len() - HEADER < body {
-        return MaybeLength::None;
+        return None;
     }
-    MaybeLength::Some(HEADER + body)
+    Some(HEADER + body)
 }
 
 // The tag of a record whose body has just the length that it says.
 fn tag_in(bytes: &[u8]) -> MaybeTag
-    ensures { tag_of result ≡ tag_in bytes.now }
+    ensures { result ≡ tag_in bytes.now }
 {
     if bytes.len() < HEADER {
         return MaybeTag::None;
@@ -105,11 +98,11 @@ fn perform_body(g: &mut [u64], mapping: &mut [u64], tag: u8, body: &[u8], line: 
     }
     let named = request_in(tag, body);
     match named {
-        MaybeRequest::Some(asked) => {
+        Some(asked) => {
             let answer = call_in_graph(g, asked);
             Step::Line(put_answer(answer, line))
         }
-        MaybeRequest::None => Step::Last(put_bad(line)),
+        None => Step::Last(put_bad(line)),
     }
 }
 
@@ -135,8 +128,8 @@ fn is_body(tag: u8, body: &[u8]) -> bool
     }
     let named = request_in(tag, body);
     match named {
-        MaybeRequest::Some(_) => true,
-        MaybeRequest::None => false,
+        Some(_) => true,
+        None => false,
     }
 }
 

@@ -7,7 +7,7 @@ ghost use Rattle.graph.specs.Layout.{REGION};
 
 use graph::layout::{NODES, REGION, count};
 use record::line::put_nodes;
-use record::perform::{MaybeLength, Step, first_length, perform};
+use record::perform::{Step, first_length, perform};
 use std::io::{Read, Stdin, Stdout, Write};
 use text::put_text;
 
@@ -23,8 +23,8 @@ fn record_length(bytes: &[u8]) -> usize
 {
     let first = first_length(bytes);
     match first {
-        MaybeLength::Some(len) => len,
-        MaybeLength::None => bytes.len(),
+        Some(len) => len,
+        None => bytes.len(),
     }
 }
 

@@ -1,6 +1,6 @@
 -- A request: a call that answers an id, None, Done or a refusal; and what is asked of it, questions 2 to 5.
 use Rattle.std.specs.Prelude.{Bool, true, false, ◌&&◌, List, [], ◌∷◌, ℕ, leb, ltb}
-use Rattle.std.proofs.Math.Option.{Option, none, some}
+use Rattle.std.specs.Prelude.{Option, None, Some}
 use Rattle.std.specs.Int.Signed.{le_z}
 use Rattle.word.specs.Value.{val}
 use Rattle.range.specs.Interval.{Interval, inside_type, interval_of}
@@ -101,8 +101,8 @@ is_bool_value ty.Integer v = true
 
 -- no range, or one that is not empty and inside the type
 abbrev pub is_range_of : ScalarType → Option Interval → Bool
-is_range_of t none = true
-is_range_of t (some a) = le_z a.low a.high && inside_type t a
+is_range_of t None = true
+is_range_of t (Some a) = le_z a.low a.high && inside_type t a
 
 -- question 5, of a constant's value and of an input's range
 abbrev pub declarable : Request → Bool

@@ -7,14 +7,14 @@ pub mod typing;
 
 use evaluate::{Binary, Unary};
 use graph::{EffectId, InputId, NodeId};
-use range::{MaybeRange, ScalarType};
+use range::ScalarType;
 use word::Word;
 
 // A call that answers an id, None, Done or a refusal.
 #[derive(Clone, Copy)]
 pub enum Request {
     Constant(Word, ScalarType),
-    Input(InputId, MaybeRange, ScalarType),
+    Input(InputId, Option<Range>, ScalarType),
     Effect(EffectId, ScalarType),
     Unary(NodeId, ScalarType, Unary),
     Binary(NodeId, NodeId, ScalarType, Binary),

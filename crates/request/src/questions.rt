@@ -13,7 +13,7 @@ use evaluate::type_width;
 use fold::shape::same_type;
 use graph::NodeId;
 use graph::read::type_at;
-use range::{MaybeRange, ScalarType};
+use range::ScalarType;
 use word::Word;
 
 fn is_width(width: u16) -> bool
@@ -122,11 +122,11 @@ fn is_bool_value(ty: ScalarType, value: Word) -> bool
 }
 
 // Is a range not empty and inside its type?
-fn is_range_of(ty: ScalarType, range: MaybeRange) -> bool
+fn is_range_of(ty: ScalarType, range: Option<Range>) -> bool
     ensures { result ≡ is_range_of ty (interval_of range) }
 {
     match range {
-        MaybeRange::Some(given) => {
+        Some(given) => {
             let min = given.min;
             if min.le(given.max) {
                 given.is_inside(ty)
@@ -134,7 +134,7 @@ fn is_range_of(ty: ScalarType, range: MaybeRange) -> bool
                 false
             }
         }
-        MaybeRange::None => true,
+        None => true,
     }
 }
 

@@ -3,7 +3,7 @@ use mathlib.Core.Path.{◌≡◌, refl, sym, ap, ◌∙◌, subst}
 use mathlib.Core.Bool.{Bool, true, false}
 use mathlib.Core.List.{List, [], ◌∷◌, ◌++◌, append_assoc, append-nil}
 use mathlib.Core.Logic.{inr}
-use mathlib.Core.Option.{some}
+use Rattle.std.specs.Prelude.{Some}
 use Prim.Native.Nat.{ℕ, suc, ◌+◌, ◌-◌, ◌≤◌}
 use native.Mathlib.Nat.{le_of_eq}
 use native.Mathlib.Omega.{arith}
@@ -28,9 +28,9 @@ use Rattle.scalars.specs.Blocks.{Wrote, Waits, runs, joined, standing, AllWhole,
 pub record First (bs : List ℕ) (k : ℕ) : Type 0 where
   pub header : 3 ≤ k
   pub within : k ≤ length bs
-  pub alone : first_length (take k bs) ≡ some (length (take k bs))
+  pub alone : first_length (take k bs) ≡ Some (length (take k bs))
 
-first_long : (a b c : ℕ) (bs : List ℕ) (k : ℕ) → first_length (a ∷ b ∷ c ∷ bs) ≡ some k → First (a ∷ b ∷ c ∷ bs) k
+first_long : (a b c : ℕ) (bs : List ℕ) (k : ℕ) → first_length (a ∷ b ∷ c ∷ bs) ≡ Some k → First (a ∷ b ∷ c ∷ bs) k
 unfolding first_length
 first_long a b c bs k e =
     by (leb (3 + little (b ∷ c ∷ [])) (length (a ∷ b ∷ c ∷ bs))) refl (rw (le-leb 3 (length (a ∷ b ∷ c ∷ bs)) (omega arith)) at e)
@@ -38,7 +38,7 @@ first_long a b c bs k e =
     n : ℕ
     n = little (b ∷ c ∷ [])
 
-    by : (t : Bool) → leb (3 + n) (length (a ∷ b ∷ c ∷ bs)) ≡ t → only t (3 + n) ≡ some k → First (a ∷ b ∷ c ∷ bs) k
+    by : (t : Bool) → leb (3 + n) (length (a ∷ b ∷ c ∷ bs)) ≡ t → only t (3 + n) ≡ Some k → First (a ∷ b ∷ c ∷ bs) k
     by true q e =
         let s : 3 + n ≡ k = some_is e in
         let l : 3 + n ≤ length (a ∷ b ∷ c ∷ bs) = leb-true (3 + n) (length (a ∷ b ∷ c ∷ bs)) q in
@@ -48,11 +48,11 @@ first_long a b c bs k e =
           header = omega (arith, s);
           within = omega (arith, s, l);
           alone = rw (z, le-leb 3 (length (a ∷ b ∷ c ∷ take n bs)) (omega arith), le-leb (3 + n) (length (a ∷ b ∷ c ∷ take n bs)) (omega (arith, t)))
-              (ap some (omega (arith, t)));
+              (ap Some (omega (arith, t)));
         }
     by false q e = absurd (none-some e)
 
-pub first_of : (bs : List ℕ) (k : ℕ) → first_length bs ≡ some k → First bs k
+pub first_of : (bs : List ℕ) (k : ℕ) → first_length bs ≡ Some k → First bs k
 unfolding first_length
 first_of [] k e = absurd (none-some e)
 first_of (a ∷ []) k e = absurd (none-some e)
@@ -69,7 +69,7 @@ joined_more : (rs : List (List ℕ)) (r : List ℕ) → joined (rs ++ (r ∷ [])
 joined_more [] r = append-nil r
 joined_more (q ∷ rs) r = ap (λ (x : List ℕ). q ++ x) (joined_more rs r) ∙ sym (append_assoc q (joined rs) r)
 
-whole_more : (rs : List (List ℕ)) (r : List ℕ) → AllWhole rs → first_length r ≡ some (length r) → AllWhole (rs ++ (r ∷ []))
+whole_more : (rs : List (List ℕ)) (r : List ℕ) → AllWhole rs → first_length r ≡ Some (length r) → AllWhole (rs ++ (r ∷ []))
 whole_more [] r w e = (e, tt)
 whole_more (q ∷ rs) r w e = (w.0, whole_more rs r w.1 e)
 
@@ -110,7 +110,7 @@ through_more {g} {m} {input} {out} {h} {w} {after} {read} {written} b t same {k}
 
 -- ---- one record by its step
 
-module _ (g m bytes line h w after : List ℕ) (k : ℕ) (whole : first_length bytes ≡ some k) (same : length after ≡ length line) where
+module _ (g m bytes line h w after : List ℕ) (k : ℕ) (whole : first_length bytes ≡ Some k) (same : length after ≡ length line) where
   pub wrote_on : (n : ℕ) → left (goes_on n) h w after ≡ record_in_graph g m (take k bytes) line → Wrote g m bytes line k n false h w after
   unfolding record_in_graph
   wrote_on n q =

@@ -1,6 +1,6 @@
 -- Records in blocks of bytes: what a run over the records at the start of a block leaves.
 use Rattle.std.specs.Prelude.{Bool, true, false, List, [], ◌∷◌, ◌++◌, ◌⊎◌, ◌≡◌, ℕ, ◌≤◌, ◌<◌, length, take, drop}
-use Rattle.std.proofs.Math.Option.{none, some}
+use Rattle.std.specs.Prelude.{None, Some}
 use Rattle.record.specs.Record.{first_length}
 use Rattle.record.specs.Line.{LINE}
 use Rattle.record.specs.Perform.{effect_in_graph}
@@ -16,14 +16,14 @@ use Rattle.scalars.specs.declared.blocks.State.TheVariants as state
 
 -- the first record of some bytes has k bytes, there is room for a line, and n bytes of the slice are its line
 pub record Wrote (g m bytes line : List ℕ) (k n : ℕ) (is_last : Bool) (h w after : List ℕ) : Type 0 where
-  pub whole : first_length bytes ≡ some k
+  pub whole : first_length bytes ≡ Some k
   pub effect : effect_in_graph g m (take k bytes) ≡ record { text = take n after; is_last = is_last; graph = h; mapping = w }
   pub within : n ≤ length line
   pub rest : drop n after ≡ drop n line
 
 -- no whole record, or no room for a line: nothing is done
 pub record Waits (g m bytes line h w after : List ℕ) : Type 0 where
-  pub why : (first_length bytes ≡ none) ⊎ (length line < LINE)
+  pub why : (first_length bytes ≡ None) ⊎ (length line < LINE)
   pub graph : h ≡ g
   pub mapping : w ≡ m
   pub unwritten : after ≡ line
@@ -53,7 +53,7 @@ standing g m = record { text = []; is_over = false; graph = g; mapping = m }
 -- every record has just its own bytes
 abbrev pub AllWhole : List (List ℕ) → Type 0
 AllWhole [] = Unit {0}
-AllWhole (r ∷ rs) = (first_length r ≡ some (length r)) × AllWhole rs
+AllWhole (r ∷ rs) = (first_length r ≡ Some (length r)) × AllWhole rs
 
 -- the first `read` bytes of a block are records, what they print are the first `written` bytes of the slice, the rest of it stays
 pub record Through (g m input out : List ℕ) (read written : ℕ) (is_over : Bool) (h w after : List ℕ) : Type 0 where
@@ -68,7 +68,7 @@ pub record Through (g m input out : List ℕ) (read written : ℕ) (is_over : Bo
 -- a run ends with a bad record, without a whole record, or without room for a line
 abbrev pub Stops : List ℕ → List ℕ → ℕ → ℕ → Bool → Type 0
 Stops input out read written true = Unit {0}
-Stops input out read written false = (first_length (drop read input) ≡ none) ⊎ (length (drop written out) < LINE)
+Stops input out read written false = (first_length (drop read input) ≡ None) ⊎ (length (drop written out) < LINE)
 
 -- ---- what is left of a block
 

@@ -5,7 +5,7 @@ ghost use Rattle.scalars.specs.Blocks.{OneSays, Through, Stops, Drains, Fills};
 
 use graph::layout::count;
 use record::line::put_nodes;
-use record::perform::{MaybeLength, Step, first_length, perform_in_graph};
+use record::perform::{Step, first_length, perform_in_graph};
 use std::io::{Read, Stdin, Stdout, Write};
 
 // The first record of some bytes: the bytes read and those written, and reading goes on or ends; or it is not there whole, or there is
@@ -48,7 +48,7 @@ fn run_one(g: &mut [u64], mapping: &mut [u64], bytes: &[u8], line: &mut [u8]) ->
     ensures { OneSays result g.old mapping.old bytes.now line.old g.new mapping.new line.new }
 {
     let first = first_length(bytes);
-    let MaybeLength::Some(len) = first else {
+    let Some(len) = first else {
         return One::Nothing;
     };
     let step = perform_in_graph(g, mapping, &bytes[0..len], line);

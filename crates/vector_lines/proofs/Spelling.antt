@@ -1,7 +1,7 @@
 -- Laws of hex digits: how a number is read digit by digit, in two parts, and how it is written in two parts. Assumes nothing.
 use mathlib.Core.Bool.{Bool, true, false}
 use mathlib.Core.List.{List, [], ◌∷◌, ◌++◌, append_assoc, append-nil}
-use mathlib.Core.Option.{Option, none, some}
+use Rattle.std.specs.Prelude.{Option, None, Some}
 use mathlib.Core.Path.{◌≡◌, refl, sym, ap, ◌∙◌}
 use Prim.Native.Nat.{ℕ, zero, suc, ◌+◌, ◌-◌, ◌*◌, ◌/◌, ◌%◌, ◌^◌, ◌≤◌, ◌<◌}
 use native.Mathlib.Nat.{pow-suc, pow-le-pow_right, lt_of_lt_of_le, le_of_eq, add-zero, add-suc, suc-add, zero-add, zero-lt-suc, mul_assoc}
@@ -30,15 +30,15 @@ pub digit_read : (n : ℕ) (l : List ℕ) (i : ℕ) → i < length l → digit_v
     → spelled_after n (drop i l) ≡ spelled_after (n * 16 + digit_value (get_or l i 0)) (drop (suc i) l)
 digit_read n l i f g = rw (drop-cons l i 0 f, lt-ltb _ _ g)
 
-pub digit-missing : (n : ℕ) (l : List ℕ) (i : ℕ) → i < length l → 16 ≤ digit_value (get_or l i 0) → spelled_after n (drop i l) ≡ none
+pub digit-missing : (n : ℕ) (l : List ℕ) (i : ℕ) → i < length l → 16 ≤ digit_value (get_or l i 0) → spelled_after n (drop i l) ≡ None
 digit-missing n l i f g = rw (drop-cons l i 0 f, le-ltb _ _ g)
 
 -- ---- digits are read in two parts
 
 -- what is read after a number that was read
 abbrev after : Option ℕ → List ℕ → Option ℕ
-after none l = none
-after (some n) l = spelled_after n l
+after None l = None
+after (Some n) l = spelled_after n l
 
 provided_after : (t : Bool) (o : Option ℕ) (l : List ℕ) → provided t (after o l) ≡ after (provided t o) l
 provided_after true o l = refl
@@ -51,8 +51,8 @@ spelled-append n (b ∷ l) m =
 
 -- more by a
 abbrev raised : ℕ → Option ℕ → Option ℕ
-raised a none = none
-raised a (some n) = some (a + n)
+raised a None = None
+raised a (Some n) = Some (a + n)
 
 provided-raised : (t : Bool) (a : ℕ) (o : Option ℕ) → provided t (raised a o) ≡ raised a (provided t o)
 provided-raised true a o = refl
@@ -70,17 +70,17 @@ spelled-raised h j n (b ∷ l) =
 
 -- two numbers of 64 bits as one
 abbrev joined : Option ℕ → Option ℕ → Option ℕ
-joined none o = none
-joined (some h) none = none
-joined (some h) (some l) = some (h * 2 ^ 64 + l)
+joined None o = None
+joined (Some h) None = None
+joined (Some h) (Some l) = Some (h * 2 ^ 64 + l)
 
-joined-raised : (h : ℕ) (o : Option ℕ) → raised (h * 2 ^ 64) o ≡ joined (some h) o
-joined-raised h none = refl
-joined-raised h (some n) = refl
+joined-raised : (h : ℕ) (o : Option ℕ) → raised (h * 2 ^ 64) o ≡ joined (Some h) o
+joined-raised h None = refl
+joined-raised h (Some n) = refl
 
 joined_after : (o : Option ℕ) (l : List ℕ) → length l ≡ 16 → after o l ≡ joined o (spelled l)
-joined_after none l e = refl
-joined_after (some h) l e =
+joined_after None l e = refl
+joined_after (Some h) l e =
     let z : h * 16 ^ 0 + 0 ≡ h = omega arith in
     (rw (z, zero-add (length l), e) at (spelled-raised h 0 0 l)) ∙ joined-raised h (spelled l)
 

@@ -1,6 +1,6 @@
 -- Numbers as hex digits.
 use Rattle.std.specs.Prelude.{cond, List, [], ◌∷◌, ℕ, ◌+◌, ◌-◌, ◌*◌, ltb}
-use Rattle.std.proofs.Math.Option.{Option, none, some}
+use Rattle.std.specs.Prelude.{Option, None, Some}
 use Rattle.word.specs.Option.{provided}
 use Rattle.io.specs.Digits.{last_digits}
 use Rattle.vector_lines.specs.declared.Number.{Number}
@@ -12,7 +12,7 @@ digit_value b = cond (ltb b 48) 16 (cond (ltb b 58) (b - 48) (cond (ltb b 97) 16
 
 -- the number that hex digits spell after those of n, if they are digits
 abbrev pub spelled_after : ℕ → List ℕ → Option ℕ
-spelled_after n [] = some n
+spelled_after n [] = Some n
 spelled_after n (b ∷ l) = provided (ltb (digit_value b) 16) (spelled_after (n * 16 + digit_value b) l)
 
 -- the number that hex digits spell
@@ -25,5 +25,5 @@ hex_digits k n = last_digits 16 k n
 
 -- what a Number stands for
 abbrev pub number_in : Number → Option ℕ
-number_in (number.Value n) = some n
-number_in number.Malformed = none
+number_in (number.Value n) = Some n
+number_in number.Malformed = None

@@ -10,7 +10,7 @@ ghost use Rattle.vector_lines.specs.Text.{digit_value, spelled, hex_digits, numb
 
 use std::io::Read;
 use text::put_text_in_room;
-use word::{MaybeWord, Word};
+use word::Word;
 
 #[derive(Clone, Copy)]
 pub enum Number {
@@ -50,21 +50,21 @@ pub fn number_of(text: &[u8]) -> Number
 }
 
 // The word that 32 hex digits spell.
-pub fn word_of(text: &[u8]) -> MaybeWord
+pub fn word_of(text: &[u8]) -> Option<Word>
     ensures { number_of result ≡ provided (eqb (length text.now) 32) (spelled text.now) }
 {
     if text.len() != 32 {
-        return MaybeWord::None;
+        return None;
     }
     let high = number_of(&text[..16]);
     let low = number_of(&text[16..]);
     let Number::Value(hi) = high else {
-        return MaybeWord::None;
+        return None;
     };
     let Number::Value(lo) = low else {
-        return MaybeWord::None;
+        return None;
     };
-    MaybeWord::Some(Word { lo: lo, hi: hi })
+    Some(Word { lo: lo, hi: hi })
 }
 
 fn put_digits(text: &[u8; 16], out: &mut [u8], at: usize) -> usize

@@ -1,6 +1,6 @@
 -- Integers by sign and magnitude: products, quotients and shifts. Assumes nothing.
 use Rattle.std.proofs.Common.{◌≡◌, ℕ, zero, suc, ◌+◌, ◌-◌, ◌*◌, ◌/◌, ◌%◌, ◌^◌, ◌<◌, ◌≤◌, Bool, true, false, ltb, ℤ, pos, negsuc, ◌*ℤ◌, neg_ℤ, nat_abs, sym, refl, ap, ◌∙◌, lt_of_le_of_lt, div-le_self, arith, pow_pos, ltb-false}
-use mathlib.Core.Option.{none, some}
+use Rattle.std.specs.Prelude.{None, Some}
 use lib.Signed.{mag, mag_rem, quot_z, rem_z, shr_z}
 use Rattle.word.specs.Value.{residue, signed, fits, fitted, is_neg, quotient, remainder}
 use Rattle.word.specs.Step.{with_sign, differ}
@@ -35,14 +35,14 @@ too_large b true zero h = absurd (omega arith)
 too_large b true (suc n) h = omega arith
 too_large b false n h = omega arith
 
-pub magnitude_past : (s : Bool) (n : ℕ) → 2 ^ 127 < n → none ≡ fitted (with_sign s n)
+pub magnitude_past : (s : Bool) (n : ℕ) → 2 ^ 127 < n → None ≡ fitted (with_sign s n)
 magnitude_past s n h = not-fitted (with_sign s n) (too_large (2 ^ 127) s n h)
 
-pub positive_past : (n : ℕ) → 2 ^ 127 ≤ n → none ≡ fitted (pos n)
+pub positive_past : (n : ℕ) → 2 ^ 127 ≤ n → None ≡ fitted (pos n)
 positive_past n h = not-fitted (pos n) h
 
-pub positive_fits : (n : ℕ) → n < 2 ^ 127 → some (signed 128 n) ≡ fitted (pos n)
-positive_fits n h = ap some (signed_low 128 n h) ∙ yes_fitted (pos n) h
+pub positive_fits : (n : ℕ) → n < 2 ^ 127 → Some (signed 128 n) ≡ fitted (pos n)
+positive_fits n h = ap Some (signed_low 128 n h) ∙ yes_fitted (pos n) h
 
 negative_mag : (b n : ℕ) → 0 < b → n ≤ b → mag (neg_ℤ (pos n)) < b
 negative_mag b zero p h = p
@@ -51,22 +51,22 @@ negative_mag b (suc n) p h = omega arith
 below_twice : (H n : ℕ) → 0 < H → n ≤ H → n < H + H
 below_twice H n p h = omega arith
 
-pub negative_fits : (n : ℕ) → n ≤ 2 ^ 127 → some (signed 128 ((2 ^ 128 - n) % 2 ^ 128)) ≡ fitted (neg_ℤ (pos n))
+pub negative_fits : (n : ℕ) → n ≤ 2 ^ 127 → Some (signed 128 ((2 ^ 128 - n) % 2 ^ 128)) ≡ fitted (neg_ℤ (pos n))
 negative_fits n h =
     let b : mag (neg_ℤ (pos n)) < 2 ^ 127 = negative_mag (2 ^ 127) n (pow_pos 127) h in
     let e : n ≡ residue 128 (pos n) = sym (residue-pos 128 n (below_twice (2 ^ 127) n (pow_pos 127) h)) in
-    ap some
+    ap Some
     (ap (λ (r : ℕ). signed 128 ((2 ^ 128 - r) % 2 ^ 128)) e ∙ ap (signed 128) (residue-neg 128 (pos n))
     ∙ signed-residue 128 (neg_ℤ (pos n)) (omega arith) b)
     ∙ yes_fitted (neg_ℤ (pos n)) b
 
 -- ---- an answer that is there, and one that is not
 
-pub answered : {A : Type 0} (t : Bool) (v a : A) → some v ≡ only t a → v ≡ a
+pub answered : {A : Type 0} (t : Bool) (v a : A) → Some v ≡ only t a → v ≡ a
 answered true v a e = cc
 answered false v a e = cc
 
-pub unanswered : {A : Type 0} (t : Bool) (a : A) → none ≡ only t a → t ≡ false
+pub unanswered : {A : Type 0} (t : Bool) (a : A) → None ≡ only t a → t ≡ false
 unanswered true a e = cc
 unanswered false a e = refl
 
@@ -74,7 +74,7 @@ past_twice : (H n : ℕ) → 0 < H → H + H ≤ n → H < n
 past_twice H n p h = omega arith
 
 -- a magnitude past 128 bits
-pub product_past : (s : Bool) (n : ℕ) → none ≡ only (ltb n (2 ^ 128)) n → none ≡ fitted (with_sign s n)
+pub product_past : (s : Bool) (n : ℕ) → None ≡ only (ltb n (2 ^ 128)) n → None ≡ fitted (with_sign s n)
 product_past s n e = magnitude_past s n (past_twice (2 ^ 127) n (pow_pos 127) (ltb-false n (2 ^ 128) (unanswered (ltb n (2 ^ 128)) n e)))
 
 -- ---- the shift that rounds down
@@ -97,12 +97,12 @@ shift_positive (negsuc v) m t f = cc
 
 -- ---- quotient and remainder
 
-pub answered_test : {A : Type 0} (t : Bool) (v a : A) → some v ≡ only t a → t ≡ true
+pub answered_test : {A : Type 0} (t : Bool) (v a : A) → Some v ≡ only t a → t ≡ true
 answered_test true v a e = refl
 answered_test false v a e = cc
 
 module _ (x y : ℤ) where
-  pub by_zero-none : ltb 0 (nat_abs y) ≡ false → (none ≡ quotient x y) × (none ≡ remainder x y)
+  pub by_zero-none : ltb 0 (nat_abs y) ≡ false → (None ≡ quotient x y) × (None ≡ remainder x y)
   unfolding quotient remainder
   by_zero-none z = (rw z, rw z)
 
@@ -116,6 +116,6 @@ module _ (x y : ℤ) where
     unfolding remainder
     remainder_by f e = rw (some-divisor, e) (sym (yes_fitted (rem_z x y) (lt_of_le_of_lt (mag_rem x y) f)))
 
-    pub remainder-none : fits (quot_z x y) ≡ false → none ≡ remainder x y
+    pub remainder-none : fits (quot_z x y) ≡ false → None ≡ remainder x y
     unfolding remainder
     remainder-none e = rw (some-divisor, e)

@@ -1,7 +1,7 @@
 -- Products of numbers in two digits, and where a product passes two halves. Assumes nothing.
 use Rattle.std.proofs.Common.{◌≡◌, ℕ, ◌+◌, ◌-◌, ◌*◌, ◌/◌, ◌%◌, ◌^◌, ◌<◌, ◌≤◌, false, ltb, sym, refl, ◌∙◌, le_trans, le_refl, le-add_right, add_assoc, mul_assoc, mul_comm, add-mul, mul-le-mul, add_comm, pos_of_ne-zero, div-add-mod', zero-mul, mul-add, mul_left_comm, arith, pow-add, ltb-false}
 use native.Mathlib.Nat.{add_left_comm, mul-add-mod_self_right}
-use mathlib.Core.Option.{some}
+use Rattle.std.specs.Prelude.{Some}
 use Rattle.word.specs.Option.{only}
 use Rattle.word.specs.Value.{val}
 use Rattle.word.specs.declared.Word.{Word}
@@ -79,7 +79,7 @@ unfolding val
 one_low a b high low z e f = rw (e, f, low_only a z) (omega (arith, mul-add a.lo (b.hi * 2 ^ 64) b.lo, mul_assoc a.lo b.hi (2 ^ 64)))
 
 -- a product by 0
-pub by_none : (m n : ℕ) → ltb 0 m ≡ false → some m ≡ only (ltb (m * n) (2 ^ 128)) (m * n)
+pub by_none : (m n : ℕ) → ltb 0 m ≡ false → Some m ≡ only (ltb (m * n) (2 ^ 128)) (m * n)
 by_none m n h =
     let l : m ≤ 0 = ltb-false 0 m h in
     let e : m ≡ 0 = omega arith in

@@ -1,6 +1,6 @@
 -- Long division, a bit at a time. The modulus is M: what is left to `omega` is linear. Assumes nothing.
 use Rattle.std.proofs.Common.{◌≡◌, ℕ, suc, ◌+◌, ◌-◌, ◌*◌, ◌/◌, ◌%◌, ◌^◌, ◌<◌, ◌≤◌, Bool, true, false, not, ltb, sym, refl, ap, ◌∙◌, ⊎_elim, lt_of_lt_of_le, mul-le-mul_right, mul_assoc, suc-mul, add-mul, lt_of_mul-lt-mul_right, one-mul, zero-add, zero-mul, mul_right_comm, div-mul-le_self, mul_left_comm, arith, pow_mono, pow-add, shr-shr, ltb-true, le-ltb, lt-ltb}
-use mathlib.Core.Option.{some}
+use Rattle.std.specs.Prelude.{Some}
 use borrow.Author.Tests.{not-true, not-false}
 use lib.Count.{count_leading_zeros}
 use lib.Bits.{bit_or}
@@ -147,7 +147,7 @@ unfolding divided
 divided_is n d q r s e f g = let u = unique e f in λ i. record { quotient = u.0 i; remainder = u.1 i; steps = g i }
 
 -- a division that is there, by a divisor that passed the test t
-pub division_given : (t : Bool) (n d : ℕ) (x : Divided) → some x ≡ only t (divided n d) → (t ≡ true) × (x.quotient ≡ n / d) × (x.remainder ≡ n % d)
+pub division_given : (t : Bool) (n d : ℕ) (x : Divided) → Some x ≡ only t (divided n d) → (t ≡ true) × (x.quotient ≡ n / d) × (x.remainder ≡ n % d)
 unfolding divided
 division_given t n d x e = let a = answered t x (divided n d) e in (answered_test t x (divided n d) e, (λ i. (a i).quotient), (λ i. (a i).remainder))
 

@@ -1,6 +1,6 @@
 -- Sums, differences and magnitudes of integers of 128 bits. Assumes nothing.
 use Rattle.std.proofs.Common.{◌≡◌, ℕ, suc, ◌+◌, ◌-◌, ◌%◌, ◌^◌, ◌<◌, ◌≤◌, Bool, true, false, not, ℤ, pos, negsuc, ◌+ℤ◌, ◌-ℤ◌, neg_ℤ, nat_abs, sym, refl, ap, ◌∙◌, ⊎_elim, mod-eq_of_lt, arith, le-ltb, lt-ltb}
-use mathlib.Core.Option.{none, some}
+use Rattle.std.specs.Prelude.{None, Some}
 use native.Mathlib.Nat.{add-mod_right, mod-add-mod}
 use lib.Signed.{mag}
 use Rattle.word.specs.Value.{residue, signed, wrapped, fits, fitted, is_neg}
@@ -19,10 +19,10 @@ not-fits : (z : ℤ) → 2 ^ 127 ≤ mag z → fits z ≡ false
 unfolding fits
 not-fits z h = le-ltb (mag z) (2 ^ 127) h
 
-pub yes_fitted : (z : ℤ) → mag z < 2 ^ 127 → some z ≡ fitted z
+pub yes_fitted : (z : ℤ) → mag z < 2 ^ 127 → Some z ≡ fitted z
 yes_fitted z h = rw (yes_fits z h)
 
-pub not-fitted : (z : ℤ) → 2 ^ 127 ≤ mag z → none ≡ fitted z
+pub not-fitted : (z : ℤ) → 2 ^ 127 ≤ mag z → None ≡ fitted z
 not-fitted z h = rw (not-fits z h)
 
 wrapped-fits : (z : ℤ) → mag z < 2 ^ 127 → wrapped z ≡ z
@@ -99,8 +99,8 @@ one_sign s z e f =
     other true = refl
     other false = refl
 
-two_signs : (z : ℤ) → mag z < 2 ^ 127 → some (wrapped z) ≡ fitted z
-two_signs z h = ap some (wrapped-fits z h) ∙ yes_fitted z h
+two_signs : (z : ℤ) → mag z < 2 ^ 127 → Some (wrapped z) ≡ fitted z
+two_signs z h = ap Some (wrapped-fits z h) ∙ yes_fitted z h
 
 checked : (l r : Bool) (z : ℤ) → Near (2 ^ 127) l r z → unless_wrapped l r (wrapped z) ≡ fitted z
 checked true true z n = one_sign true z n.0 n.1

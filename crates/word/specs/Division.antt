@@ -1,11 +1,9 @@
 -- What a division gives: quotient, remainder and steps.
-use Rattle.std.proofs.Math.Option.{Option, none, some}
+use Rattle.std.specs.Prelude.{Option, None, Some}
 use Rattle.std.specs.Prelude.{ℕ, ◌-◌, ◌/◌, ◌%◌}
 use Rattle.std.specs.Int.Count.{count_leading_zeros}
 use Rattle.word.specs.Value.{val}
 use Rattle.word.specs.declared.Division.{Division}
-use Rattle.word.specs.declared.MaybeDivision.{MaybeDivision}
-use Rattle.word.specs.declared.MaybeDivision.TheVariants as division
 
 -- a quotient, a remainder and a number of steps
 pub record Divided : Type 0 where
@@ -21,7 +19,7 @@ divided n d = record { quotient = n / d; remainder = n % d; steps = 128 - count_
 abbrev pub divided_of : Division → Divided
 divided_of d = record { quotient = val d.quotient; remainder = val d.remainder; steps = d.steps }
 
--- what a MaybeDivision stands for
-abbrev pub division_of : MaybeDivision → Option Divided
-division_of (division.Some d) = some (divided_of d)
-division_of division.None = none
+-- what a Option Division stands for
+abbrev pub division_of : Option Division → Option Divided
+division_of (Some d) = Some (divided_of d)
+division_of None = None

@@ -1,6 +1,6 @@
 -- What the inner functions of sums, products and quotients answer.
 use Rattle.std.specs.Prelude.{ℕ, Bool, true, false, not, ℤ, pos, neg_ℤ}
-use Rattle.std.proofs.Math.Option.{Option}
+use Rattle.std.specs.Prelude.{Option}
 use Rattle.word.specs.Value.{is_neg}
 use Rattle.word.specs.Option.{only}
 

@@ -1,14 +1,10 @@
 -- What a word of two halves stands for, its two readings, and which results are answered.
 use Rattle.std.specs.Prelude.{ℕ, ◌+◌, ◌-◌, ◌*◌, ◌%◌, ◌^◌, Bool, true, false, cond, ℤ, pos, negsuc, ◌+ℤ◌, ◌-ℤ◌, ◌*ℤ◌, ◌==◌, count_ones, int_div, int_lt, int_rem, nat_lt, unsigned_abs}
-use Rattle.std.proofs.Math.Option.{Option, none, some}
+use Rattle.std.specs.Prelude.{Option, None, Some}
 use Rattle.std.specs.Int.Signed.{mag}
 use Rattle.word.specs.Option.{only, provided}
 use Rattle.word.specs.declared.Word.{Word}
 use Rattle.word.specs.declared.Signed.{Signed}
-use Rattle.word.specs.declared.MaybeWord.{MaybeWord}
-use Rattle.word.specs.declared.MaybeSigned.{MaybeSigned}
-use Rattle.word.specs.declared.MaybeWord.TheVariants as word
-use Rattle.word.specs.declared.MaybeSigned.TheVariants as int
 
 -- the number that a word stands for
 unfoldable pub val : Word → ℕ
@@ -47,15 +43,15 @@ quotient x y = provided (nat_lt 0 (unsigned_abs y)) (fitted (int_div x y))
 unfoldable pub remainder : ℤ → ℤ → Option ℤ
 remainder x y = provided (nat_lt 0 (unsigned_abs y)) (only (fits (int_div x y)) (int_rem x y))
 
--- the number of a MaybeWord
-abbrev pub number_of : MaybeWord → Option ℕ
-number_of (word.Some w) = some (val w)
-number_of word.None = none
+-- the number of a Option Word
+abbrev pub number_of : Option Word → Option ℕ
+number_of (Some w) = Some (val w)
+number_of None = None
 
--- the integer of a MaybeSigned
-abbrev pub value_of : MaybeSigned → Option ℤ
-value_of (int.Some s) = some (int_of s)
-value_of int.None = none
+-- the integer of a Option Signed
+abbrev pub value_of : Option Signed → Option ℤ
+value_of (Some s) = Some (int_of s)
+value_of None = None
 
 -- is z below 0?
 abbrev pub is_neg : ℤ → Bool

@@ -23,20 +23,6 @@ pub struct Signed {
     pub hi: i64,
 }
 
-// Rust's Option<u128>.
-#[derive(Clone, Copy)]
-pub enum MaybeWord {
-    Some(Word),
-    None,
-}
-
-// Rust's Option<i128>.
-#[derive(Clone, Copy)]
-pub enum MaybeSigned {
-    Some(Signed),
-    None,
-}
-
 // What a division gives: the quotient, the remainder, and its number of steps.
 #[derive(Clone, Copy)]
 pub struct Division {
@@ -45,9 +31,3 @@ pub struct Division {
     pub steps: u32,
 }
 
-// A division; none by 0.
-#[derive(Clone, Copy)]
-pub enum MaybeDivision {
-    Some(Division),
-    None,
-}

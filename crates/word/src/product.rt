@@ -4,7 +4,7 @@ ghost use Rattle.word.specs.Value.{val, int_of, is_neg, number_of, wrapped, fitt
 ghost use Rattle.word.specs.Step.{with_sign, differ};
 ghost use Rattle.word.specs.Option.{only};
 
-use crate::{MaybeSigned, MaybeWord, Signed, Word};
+use crate::{Signed, Word};
 
 // The whole product of two halves, by digits of 32 bits.
 fn product_of_halves(u: u64, v: u64) -> Word
@@ -23,17 +23,17 @@ fn product_of_halves(u: u64, v: u64) -> Word
 }
 
 // high * 2^64 + low, where it fits.
-fn raised(high: Word, low: Word) -> MaybeWord
+fn raised(high: Word, low: Word) -> Option<Word>
     ensures { number_of result ≡ only (nat_lt (val high * 2 ^ 64 + val low) (2 ^ 128)) (val high * 2 ^ 64 + val low) }
 {
     if high.hi != 0 {
-        return MaybeWord::None;
+        return None;
     }
     let hi = std::num::wrapping_add_u64(low.hi, high.lo);
     if hi < low.hi {
-        return MaybeWord::None;
+        return None;
     }
-    MaybeWord::Some(Word { lo: low.lo, hi: hi })
+    Some(Word { lo: low.lo, hi: hi })
 }
 
 // Is one of the two below 0, and the other not?
@@ -48,7 +48,7 @@ pub(crate) fn signs_differ(left: Signed, right: Signed) -> bool
 }
 
 // The integer with this sign and magnitude, where it fits.
-pub(crate) fn signed_of(negative: bool, magnitude: Word) -> MaybeSigned
+pub(crate) fn signed_of(negative: bool, magnitude: Word) -> Option<Signed>
     ensures { value_of result ≡ fitted (with_sign negative (val magnitude)) }
 {
     let limit = Word {
@@ -57,15 +57,15 @@ pub(crate) fn signed_of(negative: bool, magnitude: Word) -> MaybeSigned
     };
     if negative {
         if limit.lt(magnitude) {
-            MaybeSigned::None
+            None
         } else {
-            MaybeSigned::Some(magnitude.wrapping_neg().as_signed())
+            Some(magnitude.wrapping_neg().as_signed())
         }
     } else {
         if magnitude.lt(limit) {
-            MaybeSigned::Some(magnitude.as_signed())
+            Some(magnitude.as_signed())
         } else {
-            MaybeSigned::None
+            None
         }
     }
 }
@@ -84,15 +84,15 @@ impl Word {
         }
     }
 
-    pub fn checked_mul(self, rhs: Word) -> MaybeWord
+    pub fn checked_mul(self, rhs: Word) -> Option<Word>
         ensures { number_of result ≡ only (nat_lt (val self * val rhs) (2 ^ 128)) (val self * val rhs) }
     {
         // Three of the four corners of two ranges from 0 on are products by 0.
         if self.is_zero() {
-            return MaybeWord::Some(self);
+            return Some(self);
         }
         if rhs.is_zero() {
-            return MaybeWord::Some(rhs);
+            return Some(rhs);
         }
         let low = product_of_halves(self.lo, rhs.lo);
         if self.hi == 0 {
@@ -103,7 +103,7 @@ impl Word {
             let high = product_of_halves(self.hi, rhs.lo);
             return raised(high, low);
         }
-        MaybeWord::None
+        None
     }
 }
 
@@ -116,7 +116,7 @@ impl Signed {
         left.wrapping_mul(right).as_signed()
     }
 
-    pub fn checked_mul(self, rhs: Signed) -> MaybeSigned
+    pub fn checked_mul(self, rhs: Signed) -> Option<Signed>
         ensures { value_of result ≡ fitted (int_of self *ℤ int_of rhs) }
     {
         let negative = signs_differ(self, rhs);
@@ -124,8 +124,8 @@ impl Signed {
         let right = rhs.unsigned_abs();
         let product = left.checked_mul(right);
         match product {
-            MaybeWord::Some(magnitude) => signed_of(negative, magnitude),
-            MaybeWord::None => MaybeSigned::None,
+            Some(magnitude) => signed_of(negative, magnitude),
+            None => None,
         }
     }
 }

@@ -6,7 +6,7 @@ ghost use Rattle.word.specs.Division.{divided, divided_of, division_of};
 ghost use Rattle.word.specs.Option.{only, from_bool};
 
 use crate::product::{signed_of, signs_differ};
-use crate::{Division, MaybeDivision, MaybeSigned, MaybeWord, Signed, Word};
+use crate::{Division, Signed, Word};
 
 // A difference modulo 2^128, and 1 if it borrows.
 #[derive(Clone, Copy)]
@@ -142,62 +142,62 @@ impl Word {
     }
 
     // Quotient, remainder and steps, one for each bit of the dividend from its highest set one down; none for a divisor of 0.
-    pub fn divide(self, divisor: Word) -> MaybeDivision
+    pub fn divide(self, divisor: Word) -> Option<Division>
         ensures { division_of result ≡ only (nat_lt 0 (val divisor)) (divided (val self) (val divisor)) }
     {
         if divisor.is_zero() {
-            return MaybeDivision::None;
+            return None;
         }
-        MaybeDivision::Some(divide_halves(self, divisor))
+        Some(divide_halves(self, divisor))
     }
 
-    pub fn checked_div(self, rhs: Word) -> MaybeWord
+    pub fn checked_div(self, rhs: Word) -> Option<Word>
         ensures { number_of result ≡ only (nat_lt 0 (val rhs)) (val self / val rhs) }
     {
         match self.divide(rhs) {
-            MaybeDivision::Some(d) => {
+            Some(d) => {
                 let quotient = d.quotient;
-                MaybeWord::Some(quotient)
+                Some(quotient)
             }
-            MaybeDivision::None => MaybeWord::None,
+            None => None,
         }
     }
 
-    pub fn checked_rem(self, rhs: Word) -> MaybeWord
+    pub fn checked_rem(self, rhs: Word) -> Option<Word>
         ensures { number_of result ≡ only (nat_lt 0 (val rhs)) (val self % val rhs) }
     {
         match self.divide(rhs) {
-            MaybeDivision::Some(d) => {
+            Some(d) => {
                 let remainder = d.remainder;
-                MaybeWord::Some(remainder)
+                Some(remainder)
             }
-            MaybeDivision::None => MaybeWord::None,
+            None => None,
         }
     }
 }
 
 impl Signed {
-    pub fn checked_div(self, rhs: Signed) -> MaybeSigned
+    pub fn checked_div(self, rhs: Signed) -> Option<Signed>
         ensures { value_of result ≡ quotient (int_of self) (int_of rhs) }
     {
         let divided = self.unsigned_abs().divide(rhs.unsigned_abs());
         match divided {
-            MaybeDivision::Some(d) => signed_of(signs_differ(self, rhs), d.quotient),
-            MaybeDivision::None => MaybeSigned::None,
+            Some(d) => signed_of(signs_differ(self, rhs), d.quotient),
+            None => None,
         }
     }
 
-    pub fn checked_rem(self, rhs: Signed) -> MaybeSigned
+    pub fn checked_rem(self, rhs: Signed) -> Option<Signed>
         ensures { value_of result ≡ remainder (int_of self) (int_of rhs) }
     {
         let divided = self.unsigned_abs().divide(rhs.unsigned_abs());
-        let MaybeDivision::Some(d) = divided else {
-            return MaybeSigned::None;
+        let Some(d) = divided else {
+            return None;
         };
         let quotient = signed_of(signs_differ(self, rhs), d.quotient);
         match quotient {
-            MaybeSigned::Some(_) => signed_of(self.is_negative(), d.remainder),
-            MaybeSigned::None => MaybeSigned::None,
+            Some(_) => signed_of(self.is_negative(), d.remainder),
+            None => None,
         }
     }
 }

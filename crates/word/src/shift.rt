@@ -4,7 +4,7 @@ ghost use Rattle.std.specs.Int.Signed.{shr_z};
 ghost use Rattle.word.specs.Value.{val, int_of, number_of};
 ghost use Rattle.word.specs.Option.{only};
 
-use crate::{MaybeWord, Signed, Word};
+use crate::{Signed, Word};
 
 impl Word {
     // The bits past the top are lost; from 128 on all of them.
@@ -55,23 +55,23 @@ impl Word {
         Word { lo: 0, hi: 0 }
     }
 
-    pub fn checked_shl(self, amount: u32) -> MaybeWord
+    pub fn checked_shl(self, amount: u32) -> Option<Word>
         ensures { number_of result ≡ only (nat_lt amount 128) (val self * 2 ^ amount % 2 ^ 128) }
     {
         if amount < 128 {
-            MaybeWord::Some(self.unbounded_shl(amount))
+            Some(self.unbounded_shl(amount))
         } else {
-            MaybeWord::None
+            None
         }
     }
 
-    pub fn checked_shr(self, amount: u32) -> MaybeWord
+    pub fn checked_shr(self, amount: u32) -> Option<Word>
         ensures { number_of result ≡ only (nat_lt amount 128) (val self / 2 ^ amount) }
     {
         if amount < 128 {
-            MaybeWord::Some(self.unbounded_shr(amount))
+            Some(self.unbounded_shr(amount))
         } else {
-            MaybeWord::None
+            None
         }
     }
 

@@ -3,7 +3,7 @@ ghost use Rattle.std.specs.Prelude.{◌≡◌, ◌+◌, ◌-◌, ◌%◌, ◌^�
 ghost use Rattle.word.specs.Value.{val, int_of, wrapped, fitted, value_of};
 ghost use Rattle.word.specs.Step.{unless_wrapped};
 
-use crate::{MaybeSigned, Signed, Word};
+use crate::{Signed, Word};
 
 impl Word {
     pub fn wrapping_add(self, rhs: Word) -> Word
@@ -46,28 +46,28 @@ impl Word {
 
 // The result of a sum or difference modulo 2^128, or None where it left the 128 bits: the operands (of a difference, the
 // left one and the right one's complement) have one sign and the result has the other.
-fn unless_wrapped(res: Signed, left: bool, right: bool) -> MaybeSigned
+fn unless_wrapped(res: Signed, left: bool, right: bool) -> Option<Signed>
     ensures { value_of result ≡ unless_wrapped left right (int_of res) }
 {
     let sign = res.is_negative();
     if left {
         if right {
             if sign {
-                MaybeSigned::Some(res)
+                Some(res)
             } else {
-                MaybeSigned::None
+                None
             }
         } else {
-            MaybeSigned::Some(res)
+            Some(res)
         }
     } else {
         if right {
-            MaybeSigned::Some(res)
+            Some(res)
         } else {
             if sign {
-                MaybeSigned::None
+                None
             } else {
-                MaybeSigned::Some(res)
+                Some(res)
             }
         }
     }
@@ -90,34 +90,34 @@ impl Signed {
         left.wrapping_sub(right).as_signed()
     }
 
-    pub fn checked_add(self, rhs: Signed) -> MaybeSigned
+    pub fn checked_add(self, rhs: Signed) -> Option<Signed>
         ensures { value_of result ≡ fitted (int_of self +ℤ int_of rhs) }
     {
         let sum = self.wrapping_add(rhs);
         unless_wrapped(sum, self.is_negative(), rhs.is_negative())
     }
 
-    pub fn checked_sub(self, rhs: Signed) -> MaybeSigned
+    pub fn checked_sub(self, rhs: Signed) -> Option<Signed>
         ensures { value_of result ≡ fitted (int_of self -ℤ int_of rhs) }
     {
         let difference = self.wrapping_sub(rhs);
         unless_wrapped(difference, self.is_negative(), !rhs.is_negative())
     }
 
-    pub fn checked_neg(self) -> MaybeSigned
+    pub fn checked_neg(self) -> Option<Signed>
         ensures { value_of result ≡ fitted (neg_ℤ (int_of self)) }
     {
         let zero = Signed { lo: 0, hi: 0 };
         zero.checked_sub(self)
     }
 
-    pub fn checked_abs(self) -> MaybeSigned
+    pub fn checked_abs(self) -> Option<Signed>
         ensures { value_of result ≡ fitted (pos (unsigned_abs (int_of self))) }
     {
         if self.is_negative() {
             self.checked_neg()
         } else {
-            MaybeSigned::Some(self)
+            Some(self)
         }
     }
 }

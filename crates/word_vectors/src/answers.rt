@@ -1,5 +1,5 @@
 // The operations by their codes: the high digit is the group, the low one the operation.
-use word::{MaybeDivision, MaybeSigned, MaybeWord, Signed, Word};
+use word::{Signed, Word};
 
 // A pattern of 128 bits, or Rust's None. A code that no operation has is malformed.
 #[derive(Clone, Copy)]
@@ -17,10 +17,10 @@ fn of_bool(b: bool) -> Answer {
     if b { of_count(1) } else { of_count(0) }
 }
 
-fn of_maybe_word(r: MaybeWord) -> Answer {
+fn of_maybe_word(r: Option<Word>) -> Answer {
     match r {
-        MaybeWord::Some(w) => Answer::Pattern(w),
-        MaybeWord::None => Answer::Nothing,
+        Some(w) => Answer::Pattern(w),
+        None => Answer::Nothing,
     }
 }
 
@@ -28,10 +28,10 @@ fn of_signed(r: Signed) -> Answer {
     Answer::Pattern(r.as_word())
 }
 
-fn of_maybe_signed(r: MaybeSigned) -> Answer {
+fn of_maybe_signed(r: Option<Signed>) -> Answer {
     match r {
-        MaybeSigned::Some(s) => of_signed(s),
-        MaybeSigned::None => Answer::Nothing,
+        Some(s) => of_signed(s),
+        None => Answer::Nothing,
     }
 }
 
@@ -41,8 +41,8 @@ fn amount(w: Word) -> u32 {
 }
 
 // A division's quotient, remainder or number of steps.
-fn of_division(part: u64, r: MaybeDivision) -> Answer {
-    let MaybeDivision::Some(d) = r else {
+fn of_division(part: u64, r: Option<Division>) -> Answer {
+    let Some(d) = r else {
         return Answer::Nothing;
     };
     let quotient = d.quotient;

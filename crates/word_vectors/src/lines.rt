@@ -5,7 +5,6 @@ ghost use Rattle.std.specs.Prelude.{◌+◌, ◌≤◌, length};
 use crate::answers::{Answer, answer_of};
 use text::put_text_in_room;
 use vector_lines::{Number, number_of, put_word_in_room, word_of};
-use word::MaybeWord;
 
 fn answer_to(line: &[u8]) -> Answer {
     if line.len() != 69 {
@@ -20,10 +19,10 @@ fn answer_to(line: &[u8]) -> Answer {
     let Number::Value(code) = first else {
         return Answer::Malformed;
     };
-    let MaybeWord::Some(a) = second else {
+    let Some(a) = second else {
         return Answer::Malformed;
     };
-    let MaybeWord::Some(b) = third else {
+    let Some(b) = third else {
         return Answer::Malformed;
     };
     answer_of(code, a, b)

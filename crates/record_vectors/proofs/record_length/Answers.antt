@@ -1,7 +1,7 @@
 -- `record_vectors::record_length` meets its contract: a record that is there whole has a header and ends within the bytes. Assumes nothing.
 use mathlib.Core.Bool.{Bool, true, false}
 use mathlib.Core.List.{List}
-use mathlib.Core.Option.{some}
+use Rattle.std.specs.Prelude.{Some}
 use mathlib.Core.Path.{◌≡◌, refl, sym}
 use Prim.Native.Nat.{ℕ, ◌+◌, ◌≤◌, ◌<◌}
 use native.Mathlib.Omega.{arith}
@@ -13,14 +13,14 @@ use Rattle.record.specs.Record.{HEADER, body_length, first_length}
 use Rattle.record_vectors.proofs.record_length.Goals as goal
 
 -- the first record
-first-within : (bs : List ℕ) (k : ℕ) → first_length bs ≡ some k → (0 < k) × (k ≤ length bs)
+first-within : (bs : List ℕ) (k : ℕ) → first_length bs ≡ Some k → (0 < k) × (k ≤ length bs)
 unfolding first_length
 first-within bs k e = by (leb HEADER (length bs)) (leb end (length bs)) refl e
   where
     end : ℕ
     end = HEADER + body_length bs
 
-    by : (h t : Bool) → leb end (length bs) ≡ t → provided h (only t end) ≡ some k → (0 < k) × (k ≤ length bs)
+    by : (h t : Bool) → leb end (length bs) ≡ t → provided h (only t end) ≡ Some k → (0 < k) × (k ≤ length bs)
     by true true q e = let z : end ≡ k = cc in (omega arith, omega (arith, leb-true end (length bs) q))
     by true false q e = let z : ◌≡◌ {A = ℕ} 0 1 = cc in absurd (omega arith)
     by false t q e = let z : ◌≡◌ {A = ℕ} 0 1 = cc in absurd (omega arith)

@@ -1,5 +1,5 @@
 use mathlib.Core.Path.{◌≡◌, sym, ap, ◌∙◌}
-use mathlib.Core.Option.{some}
+use Rattle.std.specs.Prelude.{Some}
 use Prim.Native.Nat.{ℕ, suc, ◌+◌, ◌-◌}
 use native.Mathlib.Numerals.{unary_clauses}
 use native.Mathlib.Omega.{arith}
@@ -39,7 +39,7 @@ loop-index-preserved-in-Known c =
       omega arith,
       l.invariant.1
           ∙ field_known a.g.now a.high.0 a.low.0 a.low_width l.index (id_of l.base) (val l.keep) (val l.literal) _ _ e _ _
-          (sym c.concat_bit-bit.ensures ∙ ap maybe_bit_of c.in-Some.is ∙ ap (λ (b : declared.Bit). some (one_bit_of b)) c.in-Known.is)
+          (sym c.concat_bit-bit.ensures ∙ ap maybe_bit_of c.in-Some.is ∙ ap (λ (b : declared.Bit). Some (one_bit_of b)) c.in-Known.is)
           c.with_known-literal.ensures,
     )
 
@@ -50,7 +50,7 @@ returns-then-not-is_own c =
     let e : a.width - l.index ≡ suc (a.width - (l.index + 1)) = omega arith in
     sym (l.invariant.1
     ∙ field_other a.g.now a.high.0 a.low.0 a.low_width l.index (id_of l.base) (val l.keep) (val l.literal) _ _ e _ _
-    (sym c.concat_bit-bit.ensures ∙ ap maybe_bit_of c.in-Some.is ∙ ap (λ (b : declared.Bit). some (one_bit_of b)) c.in-Source.is)
+    (sym c.concat_bit-bit.ensures ∙ ap maybe_bit_of c.in-Some.is ∙ ap (λ (b : declared.Bit). Some (one_bit_of b)) c.in-Source.is)
     (sym c.is_own.ensures ∙ c.if-not-is_own.true))
 
 pub loop-index-smaller : goal.loop-index-smaller
@@ -64,7 +64,7 @@ loop-index-preserved c =
       omega arith,
       l.invariant.1
           ∙ field_own a.g.now a.high.0 a.low.0 a.low_width l.index (id_of l.base) (val l.keep) (val l.literal) _ _ e _ _ _
-          (sym c.concat_bit-bit.ensures ∙ ap maybe_bit_of c.in-Some.is ∙ ap (λ (b : declared.Bit). some (one_bit_of b)) c.in-Source.is)
+          (sym c.concat_bit-bit.ensures ∙ ap maybe_bit_of c.in-Some.is ∙ ap (λ (b : declared.Bit). Some (one_bit_of b)) c.in-Source.is)
           (sym c.is_own.ensures ∙ c.if-not-is_own.false)
           (c.bitor-keep.ensures ∙ ap (bit_or (val l.keep)) c.power.ensures),
     )

@@ -1,7 +1,7 @@
 -- `unary_value` meets its contract: one case for each operator.
 use Rattle.word.specs.Value.{val}
 use mathlib.Core.Path.{ap, ◌∙◌}
-use mathlib.Core.Option.{some}
+use Rattle.std.specs.Prelude.{Some}
 use Rattle.word.specs.Option.{from_bool}
 use Rattle.evaluate.specs.Evaluate.{unary_value}
 use Rattle.evaluate.proofs.one_operand.unary_value.Goals as goal
@@ -9,7 +9,7 @@ use Rattle.evaluate.proofs.one_operand.unary_value.Goals as goal
 pub returns-in-BoolNot : goal.returns-in-BoolNot
 unfolding unary_value val
 returns-in-BoolNot c =
-    rw c.in-BoolNot.is (ap some (c.from_bool.ensures ∙ ap from_bool c.eq.ensures))
+    rw c.in-BoolNot.is (ap Some (c.from_bool.ensures ∙ ap from_bool c.eq.ensures))
 
 pub returns-in-BitNot : goal.returns-in-BitNot
 unfolding unary_value

@@ -1,6 +1,6 @@
 use mathlib.Core.Path.{ap, ◌∙◌}
 use mathlib.Core.Bool.{Bool, not}
-use mathlib.Core.Option.{some}
+use Rattle.std.specs.Prelude.{Some}
 use Rattle.word.specs.Value.{val}
 use Rattle.graph.proofs.Tests.{zero_test}
 use Rattle.guard.proofs.matches.wide_compared.Goals as goal
@@ -11,7 +11,7 @@ returns-then-not-is_comparison c = rw (← c.is_comparison.ensures, c.if-not-is_
 pub returns-in-Some : goal.returns-in-Some
 returns-in-Some c =
     rw (← c.is_comparison.ensures, c.if-not-is_comparison.false, ← c.binary_value-value.ensures, c.in-Some.is)
-    (ap (λ (t : Bool). some (not t)) (c.is_zero.ensures ∙ zero_test (val c.in-Some.found)))
+    (ap (λ (t : Bool). Some (not t)) (c.is_zero.ensures ∙ zero_test (val c.in-Some.found)))
 
 pub returns-in-None : goal.returns-in-None
 returns-in-None c = rw (← c.is_comparison.ensures, c.if-not-is_comparison.false, ← c.binary_value-value.ensures, c.in-None.is)

@@ -1,7 +1,7 @@
 -- `record::perform::perform_in_graph` meets its contract: room for a line, then the tag and its body. Assumes nothing.
 use mathlib.Core.Path.{sym, ap, ◌∙◌}
 use borrow.Author.Tests.{le-leb, lt-leb}
-use Rattle.record.specs.Record.{tag_of, asked}
+use Rattle.record.specs.Record.{asked}
 use Rattle.record.specs.Perform.{done_by, effect_in_graph, record_in_graph}
 use Rattle.record.proofs.Parts.{part_from}
 use Rattle.record.proofs.Steps.{tag_header, bad_step}
@@ -12,7 +12,7 @@ unfolding record_in_graph
 returns-then-line-lt-LINE c = rw (lt-leb _ _ c.if-line-lt-LINE.true)
 
 pub slice_bounds-perform_body-count : goal.slice_bounds-perform_body-count
-slice_bounds-perform_body-count c = tag_header c.args.bytes.now (sym c.tag_in-tag.ensures ∙ ap tag_of c.in-Some.is)
+slice_bounds-perform_body-count c = tag_header c.args.bytes.now (sym c.tag_in-tag.ensures ∙ c.in-Some.is)
 
 pub returns-in-Some : goal.returns-in-Some
 unfolding record_in_graph effect_in_graph asked

@@ -1,6 +1,6 @@
 -- `Word::divide` meets its contract: `is_zero` decides, and `divide_halves` divides. Assumes nothing.
 use Rattle.std.proofs.Common.{ap, ltb-true}
-use mathlib.Core.Option.{some}
+use Rattle.std.specs.Prelude.{Some}
 use Rattle.word.specs.Value.{val}
 use Rattle.word.proofs.Quotients.{by_zero, not_by_zero}
 use Rattle.word.proofs.Word.divide.Goals as goal
@@ -13,4 +13,4 @@ divide_halves-requires c = ltb-true _ _ (not_by_zero (val c.args.divisor) c.is_z
 
 pub returns : goal.returns
 returns c =
-    rw (not_by_zero (val c.args.divisor) c.is_zero.ensures c.if-is_zero.false) (ap some c.divide_halves.ensures)
+    rw (not_by_zero (val c.args.divisor) c.is_zero.ensures c.if-is_zero.false) (ap Some c.divide_halves.ensures)

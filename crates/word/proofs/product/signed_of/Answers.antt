@@ -3,7 +3,7 @@ use Rattle.word.proofs.Magnitudes.{magnitude_past, positive_past, positive_fits,
 use Rattle.word.specs.Step.{with_sign}
 use Rattle.word.specs.Value.{val, fitted, signed}
 use Rattle.std.proofs.Common.{Bool, sym, ap, ◌∙◌, ltb-false, ltb-true}
-use mathlib.Core.Option.{some}
+use Rattle.std.specs.Prelude.{Some}
 use Rattle.word.proofs.product.signed_of.Goals as goal
 
 pub returns-then-lt : goal.returns-then-lt
@@ -16,7 +16,7 @@ pub returns-else-lt : goal.returns-else-lt
 unfolding val
 returns-else-lt c =
     let g = c.args in
-    ap some (c.as_signed.ensures ∙ ap (signed 128) c.wrapping_neg.ensures)
+    ap Some (c.as_signed.ensures ∙ ap (signed 128) c.wrapping_neg.ensures)
     ∙ negative_fits (val g.magnitude) (ltb-false _ _ (sym c.lt.ensures ∙ c.if-lt.false))
     ∙ ap (λ (t : Bool). fitted (with_sign t (val g.magnitude))) (sym c.if-negative.true)
 
@@ -24,7 +24,7 @@ pub returns-then-lt-2 : goal.returns-then-lt-2
 unfolding val
 returns-then-lt-2 c =
     let g = c.args in
-    ap some c.as_signed-then-lt-2.ensures
+    ap Some c.as_signed-then-lt-2.ensures
     ∙ positive_fits (val g.magnitude) (ltb-true _ _ (sym c.lt-else-negative.ensures ∙ c.if-lt-2.true))
     ∙ ap (λ (t : Bool). fitted (with_sign t (val g.magnitude))) (sym c.if-negative.false)
 
