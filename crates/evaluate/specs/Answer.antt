@@ -7,8 +7,8 @@ use Rattle.answer.specs.declared.Refusal.TheVariants as refusal
 use Rattle.range.specs.declared.ScalarType.{ScalarType}
 use Rattle.evaluate.specs.declared.Unary.{Unary}
 use Rattle.evaluate.specs.declared.Binary.{Binary}
-use Rattle.evaluate.specs.declared.Evaluated.{Evaluated}
-use Rattle.evaluate.specs.declared.Evaluated.TheVariants as evaluated
+use Rattle.std.specs.Prelude.{Result, Ok, Err}
+use Rattle.word.specs.declared.Word.{Word}
 use Rattle.evaluate.specs.Evaluate.{unary_value, binary_value}
 use Rattle.evaluate.specs.Operator.{WIDEST, unary_width, type_width}
 
@@ -18,11 +18,11 @@ pub data Outcome : Type 0 where
   nothing : Outcome
   refused : Refusal → Outcome
 
--- what an Evaluated stands for
-abbrev pub outcome_of : Evaluated → Outcome
-outcome_of (evaluated.Value w) = value (val w)
-outcome_of evaluated.None = nothing
-outcome_of (evaluated.Refused r) = refused r
+-- what an evaluator's answer stands for
+abbrev pub outcome_of : Result (Option Word) Refusal → Outcome
+outcome_of (Ok (Some w)) = value (val w)
+outcome_of (Ok None) = nothing
+outcome_of (Err r) = refused r
 
 -- an optional value as an outcome
 abbrev pub answered : Option ℕ → Outcome

@@ -47,14 +47,6 @@ pub enum Binary {
     RemainderUnsigned,
 }
 
-// A value, the Rust's None, or a refusal.
-#[derive(Clone, Copy)]
-pub enum Evaluated {
-    Value(Word),
-    None,
-    Refused(Refusal),
-}
-
 impl Unary {
     // The parameter, or 0 where the operator has none.
     pub fn width(self) -> u16

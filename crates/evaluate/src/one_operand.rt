@@ -6,7 +6,7 @@ ghost use Rattle.evaluate.specs.Answer.{outcome_of, evaluate_unary};
 
 use crate::code::WIDEST;
 use crate::pattern::{bits_above, extended, from_bool, low_bits, pattern_of};
-use crate::{Evaluated, Unary};
+use crate::Unary;
 use answer::Refusal;
 use word::Word;
 
@@ -58,15 +58,15 @@ pub fn unary_value(operation: Unary, value: Word) -> Option<Word>
     }
 }
 
-pub fn evaluate_unary(operation: Unary, value: Word) -> Evaluated
+pub fn evaluate_unary(operation: Unary, value: Word) -> Result<Option<Word>, Refusal>
     ensures { outcome_of result ≡ evaluate_unary operation (val value) }
 {
     if WIDEST < operation.width() {
-        return Evaluated::Refused(Refusal::Width);
+        return Err(Refusal::Width);
     }
     let answer = unary_value(operation, value);
     match answer {
-        Some(result) => Evaluated::Value(result),
-        None => Evaluated::None,
+        Some(result) => Ok(Some(result)),
+        None => Ok(None),
     }
 }

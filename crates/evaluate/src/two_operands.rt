@@ -10,7 +10,7 @@ ghost use Rattle.std.proofs.Math.Option.{some};
 
 use crate::code::WIDEST;
 use crate::pattern::{extended, from_bool, pattern_of, reduced, to_u32};
-use crate::{Binary, Evaluated, type_width};
+use crate::{Binary, type_width};
 use answer::Refusal;
 use range::ScalarType;
 use word::Word;
@@ -141,15 +141,15 @@ pub fn binary_value(operation: Binary, ty: ScalarType, a: Word, b: Word) -> Opti
     }
 }
 
-pub fn evaluate_binary(operation: Binary, ty: ScalarType, a: Word, b: Word) -> Evaluated
+pub fn evaluate_binary(operation: Binary, ty: ScalarType, a: Word, b: Word) -> Result<Option<Word>, Refusal>
     ensures { outcome_of result ≡ evaluate_binary operation ty (val a) (val b) }
 {
     if WIDEST < type_width(ty) {
-        return Evaluated::Refused(Refusal::Width);
+        return Err(Refusal::Width);
     }
     let answer = binary_value(operation, ty, a, b);
     match answer {
-        Some(result) => Evaluated::Value(result),
-        None => Evaluated::None,
+        Some(result) => Ok(Some(result)),
+        None => Ok(None),
     }
 }

@@ -1,7 +1,6 @@
 // The answer to a vector: an operator's code evaluates it; past those the range of its node is asked, and then a function of ranges.
 use crate::operators::{binary_named, type_of, unary_named};
 use crate::rules::{function_answer, rule_answer};
-use evaluate::Evaluated;
 use evaluate::code::BINARY;
 use evaluate::one_operand::evaluate_unary;
 use evaluate::two_operands::evaluate_binary;
@@ -55,11 +54,11 @@ pub(crate) fn of_maybe_range(r: Option<Range>) -> Answer {
     }
 }
 
-fn of_evaluated(r: Evaluated) -> Answer {
+fn of_evaluated(r: Result<Option<Word>, Refusal>) -> Answer {
     match r {
-        Evaluated::Value(w) => Answer::Pattern(w),
-        Evaluated::None => Answer::Nothing,
-        Evaluated::Refused(refusal) => Answer::Refused(refusal.number()),
+        Ok(Some(w)) => Answer::Pattern(w),
+        Ok(None) => Answer::Nothing,
+        Err(refusal) => Answer::Refused(refusal.number()),
     }
 }
 

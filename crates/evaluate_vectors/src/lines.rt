@@ -6,16 +6,16 @@ ghost use Rattle.std.specs.Prelude.{◌≡◌, ◌+◌, ◌≤◌, length};
 use crate::answers::{Answer, Head, Operands, answer_of};
 use range::Range;
 use text::put_text_in_room;
-use vector_lines::{Number, number_of, put_word_in_room, word_of};
+use vector_lines::{number_of, put_word_in_room, word_of};
 use word::Word;
 
 // Two hex digits and a space.
-fn code_of(text: &[u8]) -> Number {
+fn code_of(text: &[u8]) -> Option<u64> {
     if text.len() != 3 {
-        return Number::Malformed;
+        return None;
     }
     if text[2] != b' ' {
-        return Number::Malformed;
+        return None;
     }
     number_of(&text[0..2])
 }
@@ -38,13 +38,13 @@ fn head_of(text: &[u8]) -> Option<Head> {
     let first = code_of(&text[0..3]);
     let second = code_of(&text[3..6]);
     let third = code_of(&text[6..9]);
-    let Number::Value(code) = first else {
+    let Some(code) = first else {
         return None;
     };
-    let Number::Value(type_code) = second else {
+    let Some(type_code) = second else {
         return None;
     };
-    let Number::Value(width) = third else {
+    let Some(width) = third else {
         return None;
     };
     Some(Head {

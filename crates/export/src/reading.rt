@@ -14,15 +14,14 @@ ghost use Rattle.export.specs.Export.{exported};
 ghost use Rattle.export.specs.Reading.{written, unary_evaluated, binary_evaluated, masked, words_at, node_in_graph, node_call, guard_words, guard_written, guard_by_number, guard_numbered, match_number, values_guard, matches_by_code};
 
 use answer::Refusal;
-use evaluate::Evaluated;
 use evaluate::code::WIDEST_WORD;
 use evaluate::one_operand::evaluate_unary;
 use evaluate::two_operands::evaluate_binary;
 use graph::NodeId;
 use graph::layout::{FIRST, SIZE, WORDS, count};
 use graph::well_formed::is_graph;
-use guard::{Guard, Matched};
-use native::{Answer, Guarded, reading, refused_as};
+use guard::Guard;
+use native::{Answer, reading, refused_as};
 use range::typed::mask;
 use request::codes::{binary_by_code, truth_by_number, type_by_code, unary_by_code};
 use word::Word;
@@ -44,11 +43,11 @@ pub(crate) fn number_of(truth: bool) -> u64
 }
 
 // A value into a slice of two words, low half first.
-fn write_value(out: &mut [u64], value: Evaluated) -> u64
+fn write_value(out: &mut [u64], value: Result<Option<Word>, Refusal>) -> u64
     ensures { exported result out.new ≡ written (outcome_of value) out.old }
 {
     match value {
-        Evaluated::Value(found) => {
+        Ok(Some(found)) => {
             if out.len() != 2 {
                 return WRONG_LENGTH;
             }
@@ -56,8 +55,8 @@ fn write_value(out: &mut [u64], value: Evaluated) -> u64
             out[1] = found.hi;
             1
         }
-        Evaluated::None => Answer::None.number(),
-        Evaluated::Refused(refusal) => refused_as(refusal),
+        Ok(None) => Ok(Answer::None).number(),
+        Err(refusal) => refused_as(refusal),
     }
 }
 
@@ -147,34 +146,34 @@ fn put_guard(out: &mut [u64], guard: Guard)
     out[4] = number_of(guard.host64);
 }
 
-fn write_guard(out: &mut [u64], found: Guarded) -> u64
+fn write_guard(out: &mut [u64], found: Result<Option<Guard>, Refusal>) -> u64
     ensures { exported result out.new ≡ guard_written (reading_of found) out.old }
 {
     match found {
-        Guarded::Some(guard) => {
+        Ok(Some(guard)) => {
             if out.len() != 5 {
                 return WRONG_LENGTH;
             }
             put_guard(out, guard);
             1
         }
-        Guarded::None => Answer::None.number(),
-        Guarded::Refused(refusal) => refused_as(refusal),
+        Ok(None) => Ok(Answer::None).number(),
+        Err(refusal) => refused_as(refusal),
     }
 }
 
 // Question 3, then what the expected answer's number names.
-fn guard_by_number(g: &[u64], condition: u64, expected: u64) -> Guarded
+fn guard_by_number(g: &[u64], condition: u64, expected: u64) -> Result<Option<Guard>, Refusal>
     requires { is_graph g.now ≡ true }
     ensures { reading_of result ≡ guard_by_number g.now condition expected }
 {
     if count(g) <= condition {
-        return Guarded::Refused(Refusal::Id);
+        return Err(Refusal::Id);
     }
     let named = truth_by_number(expected);
     match named {
         Some(wanted) => reading::guard_in_graph(g, NodeId(condition), wanted),
-        None => Guarded::Refused(Refusal::Typing),
+        None => Err(Refusal::Typing),
     }
 }
 
@@ -203,12 +202,12 @@ pub extern "C" fn scalars_guard(g: &[u64], condition: u64, expected: u64, out: &
     }
 }
 
-fn match_number(matched: Matched) -> u64
+fn match_number(matched: Result<bool, Refusal>) -> u64
     ensures { result ≡ match_number (match_of matched) }
 {
     match matched {
-        Matched::Is(truth) => number_of(truth),
-        Matched::Refused(refusal) => refused_as(refusal),
+        Ok(truth) => number_of(truth),
+        Err(refusal) => refused_as(refusal),
     }
 }
 
@@ -266,43 +265,43 @@ pub extern "C" fn scalars_matches(
 }
 
 // An operator by its code on patterns, after question 2.
-fn unary_evaluated(operator: u64, parameter: u64, value: Word) -> Evaluated
+fn unary_evaluated(operator: u64, parameter: u64, value: Word) -> Result<Option<Word>, Refusal>
     ensures { outcome_of result ≡ unary_evaluated operator parameter (val value) }
 {
     if WIDEST_WORD < parameter {
-        return Evaluated::Refused(Refusal::Width);
+        return Err(Refusal::Width);
     }
     let named = unary_by_code(operator, parameter);
     match named {
         Some(op) => evaluate_unary(op, value),
-        None => Evaluated::Refused(Refusal::Typing),
+        None => Err(Refusal::Typing),
     }
 }
 
-fn binary_evaluated(operator: u64, code: u64, width: u64, left: Word, right: Word) -> Evaluated
+fn binary_evaluated(operator: u64, code: u64, width: u64, left: Word, right: Word) -> Result<Option<Word>, Refusal>
     ensures { outcome_of result ≡ binary_evaluated operator code width (val left) (val right) }
 {
     if WIDEST_WORD < width {
-        return Evaluated::Refused(Refusal::Width);
+        return Err(Refusal::Width);
     }
     let named = type_by_code(code, width);
     let Some(ty) = named else {
-        return Evaluated::Refused(Refusal::Typing);
+        return Err(Refusal::Typing);
     };
     let operation = binary_by_code(operator);
     match operation {
         Some(op) => evaluate_binary(op, ty, left, right),
-        None => Evaluated::Refused(Refusal::Typing),
+        None => Err(Refusal::Typing),
     }
 }
 
-fn mask_of(width: u64) -> Evaluated
+fn mask_of(width: u64) -> Result<Option<Word>, Refusal>
     ensures { outcome_of result ≡ masked width }
 {
     if width <= WIDEST_WORD {
-        Evaluated::Value(mask((width % 65536) as u16))
+        Ok(Some(mask((width % 65536) as u16)))
     } else {
-        Evaluated::Refused(Refusal::Width)
+        Err(Refusal::Width)
     }
 }
 

@@ -15,14 +15,13 @@ use Rattle.graph.specs.Node as node
 use Rattle.graph.specs.Node.{Op, type_at, range_at}
 use Rattle.graph.specs.Insert.{constant_interval}
 use Rattle.fold.specs.Shape.{same_binary}
-use Rattle.fold.specs.declared.Derived as declared
+use Rattle.range.specs.declared.Range.{Range}
 use Rattle.range.specs.Interval.{interval_of}
 
--- what a Option (Option Range) stands for: the range of a new node, if the builder does not answer None
-abbrev pub derived_of : declared.Derived → Option (Option Interval)
+-- the range of a new node, which may have none; no answer where the builder answers None
+abbrev pub derived_of : Option (Option Range) → Option (Option Interval)
 derived_of (Some r) = Some (interval_of r)
 derived_of None = None
-
 
 -- ---- unary nodes
 

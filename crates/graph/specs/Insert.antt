@@ -10,8 +10,6 @@ use Rattle.range.specs.declared.ScalarType.TheVariants as ty
 use Rattle.evaluate.specs.Evaluate.{reduced}
 use Rattle.graph.specs.declared.Built.{Built}
 use Rattle.graph.specs.declared.Built.TheVariants as built
-use Rattle.graph.specs.declared.Found.{Found}
-use Rattle.graph.specs.declared.Found.TheVariants as found
 use Rattle.graph.specs.Layout.{WORDS, X, KEY, LIMIT, node_start, count_of}
 use Rattle.graph.specs.Node as node
 use Rattle.graph.specs.Node.{Op, words_of, operation_at, alias_at}
@@ -85,11 +83,6 @@ are_apart g first at (suc k) = cond (eqb (get_or g (at + X) 0) first) false (are
 abbrev pub lowest : (ℕ → Bool) → ℕ → ℕ → Option ℕ
 lowest p i zero = None
 lowest p i (suc k) = cond (p i) (Some i) (lowest p (suc i) k)
-
--- what a Found stands for
-abbrev pub found_of : Found → Option ℕ
-found_of (found.At n) = Some n
-found_of found.Nothing = None
 
 -- one past an operation's operands: no node with it is lower
 abbrev pub start : Op → ℕ

@@ -4,12 +4,12 @@ ghost use Rattle.std.proofs.Math.Seq.{paste};
 ghost use Rattle.range.specs.Interval.{interval_of};
 ghost use Rattle.graph.specs.Layout.{REGION, WORDS, KEY, FIRST, LIMIT, count_of};
 ghost use Rattle.graph.specs.Node.{op_of};
-ghost use Rattle.graph.specs.Insert.{same_words, same_key, are_apart, lowest, found_of, start, made, built_of, inserted, appended};
+ghost use Rattle.graph.specs.Insert.{same_words, same_key, are_apart, lowest, start, made, built_of, inserted, appended};
 
 use crate::encode::words_of;
 use crate::layout::{FIRST, KEY, LIMIT, OPERATION, SIZE, WORDS, X, Y, count};
 use crate::read::resolve;
-use crate::{Built, Found, NodeId, Operation};
+use crate::{Built, NodeId, Operation};
 use range::ScalarType;
 
 // Are the words from `at` on the node's key, one by one?
@@ -100,9 +100,9 @@ fn pass_over(g: &[u64], from: u64, end: u64, words: &[u64; SIZE]) -> u64
 }
 
 // The lowest node from `from` on, below the count, with this key.
-fn find(g: &[u64], from: u64, words: &[u64; SIZE]) -> Found
+fn find(g: &[u64], from: u64, words: &[u64; SIZE]) -> Option<u64>
     requires { (length g.now ≡ REGION) × (length words.now ≡ WORDS) }
-    ensures { found_of result ≡ lowest (same_key g.now words.now) from (min (count_of g.now) LIMIT - from) }
+    ensures { result ≡ lowest (same_key g.now words.now) from (min (count_of g.now) LIMIT - from) }
 {
     let nodes = count(g);
     let end = if nodes < LIMIT { nodes } else { LIMIT };
@@ -111,14 +111,14 @@ fn find(g: &[u64], from: u64, words: &[u64; SIZE]) -> Found
         let at = (FIRST + WORDS * node) as usize;
         if g[at + X] == words[X] {
             if same_key(g, at, words) {
-                return Found::At(node);
+                return Some(node);
             }
             node += 1;
         } else {
             node = pass_over(g, node + 1, end, words);
         }
     }
-    Found::Nothing
+    None
 }
 
 // Puts the words of a node at `at`.
@@ -188,7 +188,7 @@ pub fn insert(g: &mut [u64], ty: ScalarType, range: Option<Range>, operation: Op
     let words = words_of(ty, range, operation);
     let found = find(g, lowest_id(operation), &words);
     match found {
-        Found::At(node) => Built::Id(resolve(g, NodeId(node))),
-        Found::Nothing => append(g, &words),
+        Some(node) => Built::Id(resolve(g, NodeId(node))),
+        None => append(g, &words),
     }
 }

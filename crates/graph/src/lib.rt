@@ -61,9 +61,3 @@ pub enum Built {
     Units,
 }
 
-// What the search for an equal node answers.
-#[derive(Clone, Copy)]
-pub enum Found {
-    At(u64),
-    Nothing,
-}

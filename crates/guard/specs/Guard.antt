@@ -10,8 +10,7 @@ use Rattle.graph.specs.Node.{range_at}
 use Rattle.fold.specs.Operator.{comparisons}
 use Rattle.fold.specs.Shape.{same_binary, is_any, fits}
 use Rattle.guard.specs.declared.Guard as declared-guard
-use Rattle.guard.specs.declared.Matched as declared-matched
-use Rattle.guard.specs.declared.Matched.TheVariants as matches
+use Rattle.std.specs.Prelude.{Result, Ok, Err}
 use Rattle.guard.specs.Condition.{behind_nots, Comparison, comparison_at}
 use Rattle.answer.specs.declared.Refusal.{Refusal}
 use Rattle.answer.specs.declared.Refusal.TheVariants as refusal
@@ -82,10 +81,10 @@ pub data Match : Type 0 where
   is : Bool → Match
   refused : Refusal → Match
 
--- what a Matched stands for
-abbrev pub match_of : declared-matched.Matched → Match
-match_of (matches.Is b) = is b
-match_of (matches.Refused r) = refused r
+-- what the answer to matches stands for
+abbrev pub match_of : Result Bool Refusal → Match
+match_of (Ok b) = is b
+match_of (Err r) = refused r
 
 -- no answer is a no to question 4
 abbrev pub answered : Option Bool → Match

@@ -34,9 +34,3 @@ pub struct Guard {
     pub host64: bool,
 }
 
-// Do two values match a guard? Or a refusal.
-#[derive(Clone, Copy)]
-pub enum Matched {
-    Is(bool),
-    Refused(Refusal),
-}

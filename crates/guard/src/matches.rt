@@ -3,7 +3,7 @@ ghost use Rattle.std.specs.Prelude.{◌≡◌};
 ghost use Rattle.word.specs.Value.{val};
 ghost use Rattle.guard.specs.Guard.{one_guard_of, same_bool, host_compared, wide_compared, compared, match_of, matches_call};
 
-use crate::{Guard, Matched};
+use crate::Guard;
 use answer::Refusal;
 use evaluate::Binary;
 use evaluate::two_operands::binary_value;
@@ -64,13 +64,13 @@ impl Guard {
     }
 
     // An operator that is no comparison, or with `host64` a signed one, is refused 4.
-    pub fn matches(self, left: Word, right: Word) -> Matched
+    pub fn matches(self, left: Word, right: Word) -> Result<bool, Refusal>
         ensures { match_of result ≡ matches_call (one_guard_of self) (val left) (val right) }
     {
         let value = self.compared(left, right);
         match value {
-            Some(found) => Matched::Is(same_bool(self.expected, found)),
-            None => Matched::Refused(Refusal::Typing),
+            Some(found) => Ok(same_bool(self.expected, found)),
+            None => Err(Refusal::Typing),
         }
     }
 }

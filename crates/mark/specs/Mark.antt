@@ -8,8 +8,8 @@ use Rattle.native.specs.Call as calls
 use Rattle.native.specs.Call.{Response, refused_as}
 use Rattle.native.specs.Retain as unmarking
 use Rattle.native.specs.Retain.{Outcome, Retention, retention}
-use Rattle.mark.specs.declared.Marked.{Marked}
-use Rattle.mark.specs.declared.Marked.TheVariants as answer
+use Rattle.std.specs.Prelude.{Result, Ok, Err}
+use Rattle.mark.specs.declared.MarkId.{MarkId}
 use Rattle.mark.specs.Layout.{MOST, mark_start, standing, count_at, aliases_at}
 use Rattle.mark.specs.WellFormed.{is_marked}
 
@@ -40,10 +40,10 @@ pub data Number : Type 0 where
   number : ℕ → Number
   refused : Refusal → Number
 
--- what a Marked stands for
-abbrev pub marking_of : Marked → Number
-marking_of (answer.Mark k) = number k.0
-marking_of (answer.Refused r) = refused r
+-- what the answer to mark stands for
+abbrev pub marking_of : Result MarkId Refusal → Number
+marking_of (Ok k) = number k.0
+marking_of (Err r) = refused r
 
 -- a mark as an answer's number
 abbrev pub mark_number : Number → ℕ

@@ -8,35 +8,35 @@ ghost use Rattle.mark.specs.Mark.{marking_of, marking, mark_in_graph, mark_call,
 use crate::layout::{MOST, standing};
 use crate::moving::{go_back, leave_standing, set_mark};
 use crate::well_formed::is_marked;
-use crate::{MarkId, Marked};
+use crate::MarkId;
 use answer::Refusal;
 use native::Answer;
 
-pub fn mark_in_graph(g: &[u64], m: &mut [u64]) -> Marked
+pub fn mark_in_graph(g: &[u64], m: &mut [u64]) -> Result<MarkId, Refusal>
     requires { is_marked g.now m.old ≡ true }
     ensures { marking (marking_of result) m.new ≡ mark_in_graph g.now m.old }
 {
     let mark = standing(m);
     if mark < MOST {
         set_mark(g, m, mark);
-        Marked::Mark(MarkId(mark))
+        Ok(MarkId(mark))
     } else {
-        Marked::Refused(Refusal::Marks)
+        Err(Refusal::Marks)
     }
 }
 
-pub fn mark(g: &[u64], m: &mut [u64]) -> Marked
+pub fn mark(g: &[u64], m: &mut [u64]) -> Result<MarkId, Refusal>
     ensures { marking (marking_of result) m.new ≡ mark_call g.now m.old }
 {
     if is_marked(g, m) {
         mark_in_graph(g, m)
     } else {
-        Marked::Refused(Refusal::Graph)
+        Err(Refusal::Graph)
     }
 }
 
 // The graph as it was at a mark that stands; later marks are dropped.
-pub fn return_to_in_graph(g: &mut [u64], m: &mut [u64], mark: MarkId) -> Answer
+pub fn return_to_in_graph(g: &mut [u64], m: &mut [u64], mark: MarkId) -> Result<Answer, Refusal>
     requires { is_marked g.old m.old ≡ true }
     ensures { returning (answer_of result) g.new m.new ≡ return_in_graph g.old m.old mark.0 }
 {
@@ -44,18 +44,18 @@ pub fn return_to_in_graph(g: &mut [u64], m: &mut [u64], mark: MarkId) -> Answer
     if number < standing(m) {
         go_back(g, m, number);
         leave_standing(m, number + 1);
-        Answer::Done
+        Ok(Answer::Done)
     } else {
-        Answer::Refused(Refusal::Mark)
+        Err(Refusal::Mark)
     }
 }
 
-pub fn return_to(g: &mut [u64], m: &mut [u64], mark: MarkId) -> Answer
+pub fn return_to(g: &mut [u64], m: &mut [u64], mark: MarkId) -> Result<Answer, Refusal>
     ensures { returning (answer_of result) g.new m.new ≡ return_call g.old m.old mark.0 }
 {
     if is_marked(g, m) {
         return_to_in_graph(g, m, mark)
     } else {
-        Answer::Refused(Refusal::Graph)
+        Err(Refusal::Graph)
     }
 }

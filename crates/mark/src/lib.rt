@@ -16,21 +16,14 @@ use native::refused_as;
 #[derive(Clone, Copy)]
 pub struct MarkId(pub u64);
 
-// The mark that was set, or a refusal.
-#[derive(Clone, Copy)]
-pub enum Marked {
-    Mark(MarkId),
-    Refused(Refusal),
-}
-
 impl Marked {
     // The answer as one number: a mark is its own.
     pub fn number(self) -> u64
         ensures { result ≡ mark_number (marking_of self) }
     {
         match self {
-            Marked::Mark(mark) => mark.0,
-            Marked::Refused(refusal) => refused_as(refusal),
+            Ok(mark) => mark.0,
+            Err(refusal) => refused_as(refusal),
         }
     }
 }

@@ -9,21 +9,20 @@ ghost use Rattle.mark.specs.Mark.{unmarked, retaining, retain_in_graph, retain_c
 use crate::moving::leave_standing;
 use crate::well_formed::is_marked;
 use answer::Refusal;
-use native::Retained;
 use native::retain_nodes::retain_unmarked_in_graph;
 
 // After a retain that is not refused no mark stands.
-fn drop_marks(m: &mut [u64], retained: Retained)
+fn drop_marks(m: &mut [u64], retained: Result<u64, Refusal>)
     requires { length m.old ≡ MARKS }
     ensures { m.new ≡ unmarked (outcome_of retained) m.old }
 {
     match retained {
-        Retained::Kept(_) => leave_standing(m, 0),
-        Retained::Refused(_) => (),
+        Ok(_) => leave_standing(m, 0),
+        Err(_) => (),
     }
 }
 
-pub fn retain_in_graph(g: &mut [u64], m: &mut [u64], keep: &[u8], mapping: &mut [u64]) -> Retained
+pub fn retain_in_graph(g: &mut [u64], m: &mut [u64], keep: &[u8], mapping: &mut [u64]) -> Result<u64, Refusal>
     requires { is_marked g.old m.old ≡ true }
     ensures { retaining (retention (outcome_of result) g.new mapping.new) m.new ≡ retain_in_graph g.old m.old keep.now mapping.old }
 {
@@ -32,12 +31,12 @@ pub fn retain_in_graph(g: &mut [u64], m: &mut [u64], keep: &[u8], mapping: &mut 
     retained
 }
 
-pub fn retain(g: &mut [u64], m: &mut [u64], keep: &[u8], mapping: &mut [u64]) -> Retained
+pub fn retain(g: &mut [u64], m: &mut [u64], keep: &[u8], mapping: &mut [u64]) -> Result<u64, Refusal>
     ensures { retaining (retention (outcome_of result) g.new mapping.new) m.new ≡ retain_call g.old m.old keep.now mapping.old }
 {
     if is_marked(g, m) {
         retain_in_graph(g, m, keep, mapping)
     } else {
-        Retained::Refused(Refusal::Graph)
+        Err(Refusal::Graph)
     }
 }

@@ -14,12 +14,12 @@ use std::io::{Stdout, Write};
 use word::Word;
 
 // An answer as one byte: a number below ten is its digit, Done is d, None and a refusal are n and r.
-fn letter(answer: Answer) -> u8 {
+fn letter(answer: Result<Answer, Refusal>) -> u8 {
     match answer {
-        Answer::Id(id) => digit(id.0),
-        Answer::None => b'n',
-        Answer::Done => b'd',
-        Answer::Refused(_) => b'r',
+        Ok(Answer::Id(id)) => digit(id.0),
+        Ok(Answer::None) => b'n',
+        Ok(Answer::Done) => b'd',
+        Err(_) => b'r',
     }
 }
 
@@ -40,7 +40,7 @@ fn say(mut stdout: Stdout, byte: u8) {
 }
 
 // Is input 0 below 5? The node of the question is 2 unless what is known decides it.
-fn is_below(g: &mut [u64]) -> Answer {
+fn is_below(g: &mut [u64]) -> Result<Answer, Refusal> {
     by_name::binary(
         g,
         ScalarType::Bool,

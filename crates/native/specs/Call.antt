@@ -6,6 +6,7 @@ use Rattle.answer.specs.declared.Refusal.TheVariants as no
 use Rattle.graph.specs.Insert as graph
 use Rattle.graph.specs.Layout.{count_of}
 use Rattle.graph.specs.WellFormed.{is_graph}
+use Rattle.std.specs.Prelude.{Result, Ok, Err}
 use Rattle.native.specs.declared.Answer.{Answer}
 use Rattle.native.specs.declared.Answer.TheVariants as answer
 use Rattle.answer.specs.Refusal.{refusal_number}
@@ -19,12 +20,12 @@ pub data Response : Type 0 where
   done : Response
   refused : Refusal → Response
 
--- what an Answer stands for
-abbrev pub answer_of : Answer → Response
-answer_of (answer.Id i) = id i.0
-answer_of answer.None = nothing
-answer_of answer.Done = done
-answer_of (answer.Refused r) = refused r
+-- what the answer to a call stands for
+abbrev pub answer_of : Result Answer Refusal → Response
+answer_of (Ok (answer.Id i)) = id i.0
+answer_of (Ok answer.None) = nothing
+answer_of (Ok answer.Done) = done
+answer_of (Err r) = refused r
 
 -- a refusal as an answer's number: they count down from None's
 abbrev pub refused_as : Refusal → ℕ

@@ -8,8 +8,8 @@ use Rattle.graph.specs.Node.{type_at}
 use Rattle.graph.specs.WellFormed.{is_graph}
 use Rattle.fold.specs.Shape.{same_type}
 use Rattle.guard.specs.Guard.{Guard, one_guard_of, guarded}
-use Rattle.native.specs.declared.Guarded as declared
-use Rattle.native.specs.declared.Guarded.TheVariants as answer
+use Rattle.std.specs.Prelude.{Result, Ok, Err}
+use Rattle.guard.specs.declared.Guard as declared
 use Rattle.native.specs.Call.{question3}
 
 -- a guard, None, or a refusal
@@ -18,11 +18,11 @@ pub data Reading : Type 0 where
   nothing : Reading
   refused : Refusal → Reading
 
--- what a Guarded stands for
-abbrev pub reading_of : declared.Guarded → Reading
-reading_of (answer.Some q) = guard (one_guard_of q)
-reading_of answer.None = nothing
-reading_of (answer.Refused r) = refused r
+-- what the answer to guard stands for
+abbrev pub reading_of : Result (Option declared.Guard) Refusal → Reading
+reading_of (Ok (Some q)) = guard (one_guard_of q)
+reading_of (Ok None) = nothing
+reading_of (Err r) = refused r
 
 -- a guard, or None where there is none
 abbrev pub answered : Option Guard → Reading

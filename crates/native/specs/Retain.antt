@@ -6,18 +6,17 @@ use Rattle.graph.specs.Layout.{count_of}
 use Rattle.graph.specs.WellFormed.{is_graph}
 use Rattle.retain.specs.Retain.{is_keep_list, kept_below, new_ids, retained}
 use Rattle.native.specs.Call.{refused_as}
-use Rattle.native.specs.declared.Retained.{Retained}
-use Rattle.native.specs.declared.Retained.TheVariants as answer
+use Rattle.std.specs.Prelude.{Result, Ok, Err}
 
 -- the number of nodes left, or a refusal
 pub data Outcome : Type 0 where
   kept : ℕ → Outcome
   refused : Refusal → Outcome
 
--- what a Retained stands for
-abbrev pub outcome_of : Retained → Outcome
-outcome_of (answer.Kept n) = kept n
-outcome_of (answer.Refused r) = refused r
+-- what the answer to retain stands for
+abbrev pub outcome_of : Result ℕ Refusal → Outcome
+outcome_of (Ok n) = kept n
+outcome_of (Err r) = refused r
 
 -- an outcome as one number
 abbrev pub outcome_number : Outcome → ℕ

@@ -53,7 +53,7 @@ pub(crate) fn unary(
     op: Unary,
     value: NodeId,
     full: Refusal,
-) -> Answer
+) -> Result<Answer, Refusal>
     requires { length g.old ≡ REGION }
     ensures { called (answer_of result) g.new ≡ builder_out full (build (call.unary ty op value.0) UNITS g.old) }
 {
@@ -105,7 +105,7 @@ pub(crate) fn binary(
     left: NodeId,
     right: NodeId,
     full: Refusal,
-) -> Answer
+) -> Result<Answer, Refusal>
     requires { length g.old ≡ REGION }
     ensures { called (answer_of result) g.new ≡ builder_out full (build (call.binary ty op left.0 right.0) UNITS g.old) }
 {
@@ -136,7 +136,7 @@ fn is_slice_open(g: &[u64], value: NodeId, offset: u64, width: u16) -> bool
     true
 }
 
-pub(crate) fn slice(g: &mut [u64], value: NodeId, offset: u64, width: u16, full: Refusal) -> Answer
+pub(crate) fn slice(g: &mut [u64], value: NodeId, offset: u64, width: u16, full: Refusal) -> Result<Answer, Refusal>
     requires { length g.old ≡ REGION }
     ensures { called (answer_of result) g.new ≡ builder_out full (build (call.slice value.0 offset width) UNITS g.old) }
 {

@@ -27,21 +27,6 @@ pub enum Answer {
     Refused(Refusal),
 }
 
-// A guard, the Rust's None, or a refusal.
-#[derive(Clone, Copy)]
-pub enum Guarded {
-    Some(Guard),
-    None,
-    Refused(Refusal),
-}
-
-// The number of nodes that a retain left, or a refusal.
-#[derive(Clone, Copy)]
-pub enum Retained {
-    Kept(u64),
-    Refused(Refusal),
-}
-
 // A refusal as an answer's number: they count down from None's.
 pub fn refused_as(refusal: Refusal) -> u64
     ensures { result ≡ refused_as refusal }
@@ -55,10 +40,10 @@ impl Answer {
         ensures { result ≡ answer_number (answer_of self) }
     {
         match self {
-            Answer::Id(id) => id.0,
-            Answer::None => u64::MAX,
-            Answer::Done => DONE,
-            Answer::Refused(refusal) => refused_as(refusal),
+            Ok(Answer::Id(id)) => id.0,
+            Ok(Answer::None) => u64::MAX,
+            Ok(Answer::Done) => DONE,
+            Err(refusal) => refused_as(refusal),
         }
     }
 }
@@ -69,8 +54,8 @@ impl Retained {
         ensures { result ≡ outcome_number (outcome_of self) }
     {
         match self {
-            Retained::Kept(nodes) => nodes,
-            Retained::Refused(refusal) => refused_as(refusal),
+            Ok(nodes) => nodes,
+            Err(refusal) => refused_as(refusal),
         }
     }
 }

@@ -31,41 +31,41 @@ pub(crate) fn full_budget() -> Budget
 }
 
 // A builder's answer to a caller, who says what no room is.
-pub(crate) fn settle(built: Built, full: Refusal) -> Answer
+pub(crate) fn settle(built: Built, full: Refusal) -> Result<Answer, Refusal>
     ensures { answer_of result ≡ settled full (built_of built) }
 {
     match built {
-        Built::Id(id) => Answer::Id(id),
-        Built::None => Answer::None,
-        Built::Room => Answer::Refused(full),
-        Built::Units => Answer::Refused(Refusal::Units),
+        Built::Id(id) => Ok(Answer::Id(id)),
+        Built::None => Ok(Answer::None),
+        Built::Room => Err(full),
+        Built::Units => Err(Refusal::Units),
     }
 }
 
 // A condition is assumed; without room for a node its aliases and nodes are taken back. Most guards narrow nothing, and need nothing saved.
-fn assume_or_restore(g: &mut [u64], condition: NodeId, expected: bool, full: Refusal) -> Answer
+fn assume_or_restore(g: &mut [u64], condition: NodeId, expected: bool, full: Refusal) -> Result<Answer, Refusal>
     requires { is_graph g.old ≡ true }
     ensures { called (answer_of result) g.new ≡ guard_out full g.old (assumed_guard g.old condition.0 expected).outcome (assumed_guard g.old condition.0 expected).words }
 {
     if !is_narrowing(g, condition, expected) {
-        return Answer::Done;
+        return Ok(Answer::Done);
     }
     let nodes = count(g);
     let mut aliases: [u64; NODES] = [0; NODES];
     save_aliases(g, &mut aliases);
     let outcome = guard_assumed::assume_guard(g, condition, expected);
     match outcome {
-        Outcome::Unchanged => Answer::Done,
-        Outcome::Narrowed => Answer::Done,
+        Outcome::Unchanged => Ok(Answer::Done),
+        Outcome::Narrowed => Ok(Answer::Done),
         Outcome::Full => {
             restore(g, nodes, &aliases);
-            Answer::Refused(full)
+            Err(full)
         }
     }
 }
 
 // The work on a request whose questions are answered yes.
-fn work(g: &mut [u64], request: Request, full: Refusal) -> Answer
+fn work(g: &mut [u64], request: Request, full: Refusal) -> Result<Answer, Refusal>
     requires { is_graph g.old ≡ true }
     ensures { called (answer_of result) g.new ≡ worked full g.old (request_of request) }
 {
@@ -87,24 +87,24 @@ fn work(g: &mut [u64], request: Request, full: Refusal) -> Answer
             settle(built, full)
         }
         Request::Guard(condition, expected) => assume_or_restore(g, condition, expected, full),
-        Request::UnnamedLeaf(_) => Answer::Refused(Refusal::Typing),
-        Request::UnnamedOperation(_, _, _, _) => Answer::Refused(Refusal::Typing),
+        Request::UnnamedLeaf(_) => Err(Refusal::Typing),
+        Request::UnnamedOperation(_, _, _, _) => Err(Refusal::Typing),
     }
 }
 
-fn is_refused(answer: Answer) -> bool
+fn is_refused(answer: Result<Answer, Refusal>) -> bool
     ensures { result ≡ is_refused (answer_of answer) }
 {
     match answer {
-        Answer::Id(_) => false,
-        Answer::None => false,
-        Answer::Done => false,
-        Answer::Refused(_) => true,
+        Ok(Answer::Id(_)) => false,
+        Ok(Answer::None) => false,
+        Ok(Answer::Done) => false,
+        Err(_) => true,
     }
 }
 
 // A refusal takes back what was added since there were `nodes` nodes.
-fn take_back(g: &mut [u64], nodes: u64, answer: Answer)
+fn take_back(g: &mut [u64], nodes: u64, answer: Result<Answer, Refusal>)
     requires { (length g.old ≡ REGION) × (nodes ≤ LIMIT) }
     ensures { g.new ≡ left nodes (answer_of answer) g.old }
 {
@@ -114,22 +114,22 @@ fn take_back(g: &mut [u64], nodes: u64, answer: Answer)
 }
 
 // Questions 2 to 5, then the work; `full` is the answer without room for a node.
-fn perform(g: &mut [u64], request: Request, full: Refusal) -> Answer
+fn perform(g: &mut [u64], request: Request, full: Refusal) -> Result<Answer, Refusal>
     requires { is_graph g.old ≡ true }
     ensures { called (answer_of result) g.new ≡ performed full g.old (request_of request) }
 {
     let nodes = count(g);
     if !are_widths(request) {
-        return Answer::Refused(Refusal::Width);
+        return Err(Refusal::Width);
     }
     if !are_ids(nodes, request) {
-        return Answer::Refused(Refusal::Id);
+        return Err(Refusal::Id);
     }
     if !is_typed(g, request) {
-        return Answer::Refused(Refusal::Typing);
+        return Err(Refusal::Typing);
     }
     if !is_declarable(request) {
-        return Answer::Refused(Refusal::Value);
+        return Err(Refusal::Value);
     }
     let answer = work(g, request, full);
     take_back(g, nodes, answer);
@@ -137,19 +137,19 @@ fn perform(g: &mut [u64], request: Request, full: Refusal) -> Answer
 }
 
 // For a caller that knows the region to be a graph: question 1 is not asked. On another region nothing is promised.
-pub fn call_in_graph(g: &mut [u64], request: Request) -> Answer
+pub fn call_in_graph(g: &mut [u64], request: Request) -> Result<Answer, Refusal>
     requires { is_graph g.old ≡ true }
     ensures { called (answer_of result) g.new ≡ request_in_graph g.old (request_of request) }
 {
     perform(g, request, Refusal::Room)
 }
 
-pub fn call(g: &mut [u64], request: Request) -> Answer
+pub fn call(g: &mut [u64], request: Request) -> Result<Answer, Refusal>
     ensures { called (answer_of result) g.new ≡ request_call g.old (request_of request) }
 {
     if is_graph(g) {
         call_in_graph(g, request)
     } else {
-        Answer::Refused(Refusal::Graph)
+        Err(Refusal::Graph)
     }
 }

@@ -6,9 +6,8 @@ ghost use Rattle.graph.specs.WellFormed.{is_graph};
 ghost use Rattle.native.specs.Call.{answer_of, literal_call, literal_in_graph, resolve_call, resolve_in_graph};
 ghost use Rattle.native.specs.Guard.{reading_of, guard_in_graph, guard_call};
 
-use crate::{Answer, Guarded};
+use crate::Answer;
 use answer::Refusal;
-use evaluate::Evaluated;
 use fold::shape::same_type;
 use graph::layout::count;
 use graph::read::type_at;
@@ -18,55 +17,55 @@ use guard::guarded;
 use range::ScalarType;
 
 // The value of a constant, or None.
-pub fn literal_in_graph(g: &[u64], id: NodeId) -> Evaluated
+pub fn literal_in_graph(g: &[u64], id: NodeId) -> Result<Option<Word>, Refusal>
     requires { is_graph g.now ≡ true }
     ensures { outcome_of result ≡ literal_in_graph g.now id.0 }
 {
     if id.0 < count(g) {
         let value = read::literal(g, id);
         match value {
-            Some(found) => Evaluated::Value(found),
-            None => Evaluated::None,
+            Some(found) => Ok(Some(found)),
+            None => Ok(None),
         }
     } else {
-        Evaluated::Refused(Refusal::Id)
+        Err(Refusal::Id)
     }
 }
 
-pub fn literal(g: &[u64], id: NodeId) -> Evaluated
+pub fn literal(g: &[u64], id: NodeId) -> Result<Option<Word>, Refusal>
     ensures { outcome_of result ≡ literal_call g.now id.0 }
 {
     if is_graph(g) {
         literal_in_graph(g, id)
     } else {
-        Evaluated::Refused(Refusal::Graph)
+        Err(Refusal::Graph)
     }
 }
 
 // The node that stands for this one now.
-pub fn resolve_in_graph(g: &[u64], id: NodeId) -> Answer
+pub fn resolve_in_graph(g: &[u64], id: NodeId) -> Result<Answer, Refusal>
     requires { is_graph g.now ≡ true }
     ensures { answer_of result ≡ resolve_in_graph g.now id.0 }
 {
     if id.0 < count(g) {
-        Answer::Id(read::resolve(g, id))
+        Ok(Answer::Id(read::resolve(g, id)))
     } else {
-        Answer::Refused(Refusal::Id)
+        Err(Refusal::Id)
     }
 }
 
-pub fn resolve(g: &[u64], id: NodeId) -> Answer
+pub fn resolve(g: &[u64], id: NodeId) -> Result<Answer, Refusal>
     ensures { answer_of result ≡ resolve_call g.now id.0 }
 {
     if is_graph(g) {
         resolve_in_graph(g, id)
     } else {
-        Answer::Refused(Refusal::Graph)
+        Err(Refusal::Graph)
     }
 }
 
 // The guard of a condition.
-pub fn guard_in_graph(g: &[u64], condition: NodeId, expected: bool) -> Guarded
+pub fn guard_in_graph(g: &[u64], condition: NodeId, expected: bool) -> Result<Option<Guard>, Refusal>
     requires { is_graph g.now ≡ true }
     ensures { reading_of result ≡ guard_in_graph g.now condition.0 expected }
 {
@@ -74,23 +73,23 @@ pub fn guard_in_graph(g: &[u64], condition: NodeId, expected: bool) -> Guarded
         if same_type(type_at(g, condition), ScalarType::Bool) {
             let found = guarded::guarded(g, condition, expected);
             match found {
-                Some(guard) => Guarded::Some(guard),
-                None => Guarded::None,
+                Some(guard) => Ok(Some(guard)),
+                None => Ok(None),
             }
         } else {
-            Guarded::Refused(Refusal::Typing)
+            Err(Refusal::Typing)
         }
     } else {
-        Guarded::Refused(Refusal::Id)
+        Err(Refusal::Id)
     }
 }
 
-pub fn guard(g: &[u64], condition: NodeId, expected: bool) -> Guarded
+pub fn guard(g: &[u64], condition: NodeId, expected: bool) -> Result<Option<Guard>, Refusal>
     ensures { reading_of result ≡ guard_call g.now condition.0 expected }
 {
     if is_graph(g) {
         guard_in_graph(g, condition, expected)
     } else {
-        Guarded::Refused(Refusal::Graph)
+        Err(Refusal::Graph)
     }
 }

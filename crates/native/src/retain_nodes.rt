@@ -4,28 +4,27 @@ ghost use Rattle.std.specs.Prelude.{true, ◌≡◌};
 ghost use Rattle.graph.specs.WellFormed.{is_graph};
 ghost use Rattle.native.specs.Retain.{outcome_of, retention, retain_in_graph, retain_call};
 
-use crate::Retained;
 use answer::Refusal;
 use graph::well_formed::is_graph;
 use retain::keep_list::is_keep_list;
 
-pub fn retain_unmarked_in_graph(g: &mut [u64], keep: &[u8], mapping: &mut [u64]) -> Retained
+pub fn retain_unmarked_in_graph(g: &mut [u64], keep: &[u8], mapping: &mut [u64]) -> Result<u64, Refusal>
     requires { is_graph g.old ≡ true }
     ensures { retention (outcome_of result) g.new mapping.new ≡ retain_in_graph g.old keep.now mapping.old }
 {
     if is_keep_list(g, keep, mapping) {
-        Retained::Kept(retain::retain(g, keep, mapping))
+        Ok(retain::retain(g, keep, mapping))
     } else {
-        Retained::Refused(Refusal::Keep)
+        Err(Refusal::Keep)
     }
 }
 
-pub fn retain_unmarked(g: &mut [u64], keep: &[u8], mapping: &mut [u64]) -> Retained
+pub fn retain_unmarked(g: &mut [u64], keep: &[u8], mapping: &mut [u64]) -> Result<u64, Refusal>
     ensures { retention (outcome_of result) g.new mapping.new ≡ retain_call g.old keep.now mapping.old }
 {
     if is_graph(g) {
         retain_unmarked_in_graph(g, keep, mapping)
     } else {
-        Retained::Refused(Refusal::Graph)
+        Err(Refusal::Graph)
     }
 }

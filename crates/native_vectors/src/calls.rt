@@ -4,7 +4,6 @@ use crate::guards::guarded;
 use crate::lines::Fields;
 use crate::region::{peek, poke, zero};
 use crate::retains::retained;
-use evaluate::Evaluated;
 use evaluate::code::{BITS, BOOL, INTEGER, binary_of, unary_of};
 use graph::layout::REGION;
 use graph::well_formed::is_graph;
@@ -58,20 +57,20 @@ fn range_of(flag: u64, min: Word, max: Word) -> Option<Range> {
     })
 }
 
-pub(crate) fn of_answer(answer: Answer) -> Reply {
+pub(crate) fn of_answer(answer: Result<Answer, Refusal>) -> Reply {
     match answer {
-        Answer::Id(id) => Reply::Id(id.0),
-        Answer::None => Reply::None,
-        Answer::Done => Reply::Done,
-        Answer::Refused(refusal) => Reply::Refused(refusal.number()),
+        Ok(Answer::Id(id)) => Reply::Id(id.0),
+        Ok(Answer::None) => Reply::None,
+        Ok(Answer::Done) => Reply::Done,
+        Err(refusal) => Reply::Refused(refusal.number()),
     }
 }
 
-fn of_evaluated(answer: Evaluated) -> Reply {
+fn of_evaluated(answer: Result<Option<Word>, Refusal>) -> Reply {
     match answer {
-        Evaluated::Value(value) => Reply::Value(value),
-        Evaluated::None => Reply::None,
-        Evaluated::Refused(refusal) => Reply::Refused(refusal.number()),
+        Ok(Some(value)) => Reply::Value(value),
+        Ok(None) => Reply::None,
+        Err(refusal) => Reply::Refused(refusal.number()),
     }
 }
 

@@ -7,8 +7,7 @@ use crate::calls::{Reply, of_answer, of_bool};
 use crate::lines::Fields;
 use evaluate::code::binary_of;
 use graph::NodeId;
-use guard::{Guard, Matched};
-use native::Guarded;
+use guard::Guard;
 use native::by_name::assume_guard;
 use native::reading::guard;
 use word::Word;
@@ -28,18 +27,18 @@ fn packed(guard: Guard) -> Word
     }
 }
 
-fn of_guarded(answer: Guarded) -> Reply {
+fn of_guarded(answer: Result<Option<Guard>, Refusal>) -> Reply {
     match answer {
-        Guarded::Some(found) => Reply::Guard(packed(found)),
-        Guarded::None => Reply::None,
-        Guarded::Refused(refusal) => Reply::Refused(refusal.number()),
+        Ok(Some(found)) => Reply::Guard(packed(found)),
+        Ok(None) => Reply::None,
+        Err(refusal) => Reply::Refused(refusal.number()),
     }
 }
 
-fn of_matched(answer: Matched) -> Reply {
+fn of_matched(answer: Result<bool, Refusal>) -> Reply {
     match answer {
-        Matched::Is(is) => of_bool(is),
-        Matched::Refused(refusal) => Reply::Refused(refusal.number()),
+        Ok(is) => of_bool(is),
+        Err(refusal) => Reply::Refused(refusal.number()),
     }
 }
 

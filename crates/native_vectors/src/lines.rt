@@ -1,6 +1,6 @@
 // The text of a call: hex digits of its kind (2), the region's length (4), a number (16), a type (2), a width (4), a flag (2)
 // and two words (32 each), with a space after each field and a line end after the last.
-use vector_lines::{Number, number_of, word_of};
+use vector_lines::{number_of, word_of};
 use word::Word;
 
 // The fields of a call. What its kind does not use is not looked at.
@@ -28,13 +28,13 @@ struct Numbers {
 }
 
 // Hex digits and a space.
-fn field_of(text: &[u8]) -> Number {
+fn field_of(text: &[u8]) -> Option<u64> {
     if text.len() == 0 {
-        return Number::Malformed;
+        return None;
     }
     let end = text.len() - 1;
     if text[end] != b' ' {
-        return Number::Malformed;
+        return None;
     }
     number_of(&text[0..end])
 }
@@ -55,22 +55,22 @@ fn numbers_of(text: &[u8]) -> Option<Numbers> {
     if text.len() != 36 {
         return None;
     }
-    let Number::Value(kind) = field_of(&text[0..3]) else {
+    let Some(kind) = field_of(&text[0..3]) else {
         return None;
     };
-    let Number::Value(len) = field_of(&text[3..8]) else {
+    let Some(len) = field_of(&text[3..8]) else {
         return None;
     };
-    let Number::Value(number) = field_of(&text[8..25]) else {
+    let Some(number) = field_of(&text[8..25]) else {
         return None;
     };
-    let Number::Value(type_code) = field_of(&text[25..28]) else {
+    let Some(type_code) = field_of(&text[25..28]) else {
         return None;
     };
-    let Number::Value(width) = field_of(&text[28..33]) else {
+    let Some(width) = field_of(&text[28..33]) else {
         return None;
     };
-    let Number::Value(flag) = field_of(&text[33..36]) else {
+    let Some(flag) = field_of(&text[33..36]) else {
         return None;
     };
     Some(Numbers {

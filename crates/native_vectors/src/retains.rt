@@ -3,7 +3,6 @@
 use crate::calls::Reply;
 use crate::lines::Fields;
 use crate::region::{peek, put};
-use native::Retained;
 use native::retain_nodes::retain_unmarked;
 use word::Word;
 
@@ -45,10 +44,10 @@ fn store(words: &mut [u64], mapping: &[u64]) {
     }
 }
 
-fn of_retained(answer: Retained) -> Reply {
+fn of_retained(answer: Result<u64, Refusal>) -> Reply {
     match answer {
-        Retained::Kept(nodes) => Reply::Kept(nodes),
-        Retained::Refused(refusal) => Reply::Refused(refusal.number()),
+        Ok(nodes) => Reply::Kept(nodes),
+        Err(refusal) => Reply::Refused(refusal.number()),
     }
 }
 

@@ -106,7 +106,7 @@ abbrev pub one_cut_of : declared-cut.Cut → Cut
 one_cut_of c = record { value = c.value.0; offset = c.offset }
 
 -- what a Option Cut stands for
-abbrev pub maybe_cut_of : Option declared.Cut → Option Cut
+abbrev pub maybe_cut_of : Option declared-cut.Cut → Option Cut
 maybe_cut_of (Some c) = Some (one_cut_of c)
 maybe_cut_of None = None
 

@@ -9,19 +9,12 @@ use Rattle.graph.specs.Node.{range_of}
 use Rattle.request.specs.Codes.{type_by_code, unary_by_code, binary_by_code, truth_by_number}
 use Rattle.request.specs.Request as asks
 use Rattle.request.specs.Request.{Request, request_of}
-use Rattle.record.specs.declared.decode.MaybeRequest.{Option Request}
-use Rattle.record.specs.declared.decode.MaybeRequest.TheVariants as named
-use Rattle.record.specs.declared.perform.MaybeTag.{MaybeTag}
-use Rattle.record.specs.declared.perform.MaybeTag.TheVariants as tags
-use Rattle.record.specs.declared.perform.MaybeLength.{Option ℕ}
-use Rattle.record.specs.declared.perform.MaybeLength.TheVariants as lengths
+use Rattle.request.specs.declared.Request as declared
 
--- what a Option Request stands for
-abbrev pub named_of : Option Request → Option Request
-named_of (named.Some q) = Some (request_of q)
-named_of named.None = None
-
-
+-- a Request that may be there
+abbrev pub named_of : Option declared.Request → Option Request
+named_of (Some q) = Some (request_of q)
+named_of None = None
 
 -- ---- fields: each is split off, and the rest of the record is handed on; where one is wrong or missing there is nothing
 

@@ -7,7 +7,7 @@ ghost use Rattle.native.specs.Retain.{outcome_of};
 ghost use Rattle.record.specs.Line.{LINE, BAD, REFUSED, numbered, answer_line, retain_line, nodes_line};
 
 use answer::Refusal;
-use native::{Answer, Retained};
+use native::Answer;
 use text::{put_decimal_in_room, put_text_in_room};
 
 // Room for any line.
@@ -32,27 +32,27 @@ pub(crate) fn put_refusal(refusal: Refusal, line: &mut [u8]) -> usize
     put_numbered(b"refused ", refusal.number(), line)
 }
 
-pub(crate) fn put_answer(answer: Answer, line: &mut [u8]) -> usize
+pub(crate) fn put_answer(answer: Result<Answer, Refusal>, line: &mut [u8]) -> usize
     requires { LINE ≤ length line.old }
     ensures value { result ≡ length (answer_line (answer_of answer)) }
     ensures line_after { line.new ≡ placed line.old 0 (answer_line (answer_of answer)) }
 {
     match answer {
-        Answer::Id(id) => put_numbered(b"id ", id.0, line),
-        Answer::None => put_text_in_room(b"none\n", line, 0),
-        Answer::Done => put_text_in_room(b"done\n", line, 0),
-        Answer::Refused(refusal) => put_refusal(refusal, line),
+        Ok(Answer::Id(id)) => put_numbered(b"id ", id.0, line),
+        Ok(Answer::None) => put_text_in_room(b"none\n", line, 0),
+        Ok(Answer::Done) => put_text_in_room(b"done\n", line, 0),
+        Err(refusal) => put_refusal(refusal, line),
     }
 }
 
-pub(crate) fn put_retained(retained: Retained, line: &mut [u8]) -> usize
+pub(crate) fn put_retained(retained: Result<u64, Refusal>, line: &mut [u8]) -> usize
     requires { LINE ≤ length line.old }
     ensures value { result ≡ length (retain_line (outcome_of retained)) }
     ensures line_after { line.new ≡ placed line.old 0 (retain_line (outcome_of retained)) }
 {
     match retained {
-        Retained::Kept(nodes) => put_numbered(b"kept ", nodes, line),
-        Retained::Refused(refusal) => put_refusal(refusal, line),
+        Ok(nodes) => put_numbered(b"kept ", nodes, line),
+        Err(refusal) => put_refusal(refusal, line),
     }
 }
 

@@ -15,7 +15,6 @@ use crate::line::{LINE, put_answer, put_bad, put_refusal, put_retained};
 use answer::Refusal;
 use graph::layout::count;
 use graph::well_formed::is_graph;
-use native::Retained;
 use native::perform::call_in_graph;
 use native::retain_nodes::retain_unmarked_in_graph;
 
@@ -24,13 +23,6 @@ const HEADER: usize = 3;
 
 // The tag of a retain.
 const RETAIN: u8 = 10;
-
-// The tag of a record, or none: a bad record.
-#[derive(Clone, Copy)]
-enum MaybeTag {
-    Some(u8),
-    None,
-}
 
 // What a record came to: a line of so many bytes, and reading goes on or ends; or there is no room for a line, and nothing was done.
 #[derive(Clone, Copy)]
@@ -55,17 +47,17 @@ pub fn first_length(bytes: &[u8]) -> Option<usize>
 }
 
 // The tag of a record whose body has just the length that it says.
-fn tag_in(bytes: &[u8]) -> MaybeTag
+fn tag_in(bytes: &[u8]) -> Option<u8>
     ensures { result ≡ tag_in bytes.now }
 {
     if bytes.len() < HEADER {
-        return MaybeTag::None;
+        return None;
     }
     let body = short_of(&bytes[1..3]) as usize;
     if body != bytes.len() - HEADER {
-        return MaybeTag::None;
+        return None;
     }
-    MaybeTag::Some(bytes[0])
+    Some(bytes[0])
 }
 
 // As many words of a mapping as there are nodes, as far as it has them.
@@ -79,7 +71,7 @@ fn lent_words(nodes: u64, words: usize) -> usize
     }
 }
 
-fn retain_listed(g: &mut [u64], mapping: &mut [u64], keep: &[u8]) -> Retained
+fn retain_listed(g: &mut [u64], mapping: &mut [u64], keep: &[u8]) -> Result<u64, Refusal>
     requires { is_graph g.old ≡ true }
     ensures { retention (outcome_of result) g.new mapping.new ≡ widened (lent_words g.old mapping.old) mapping.old (retain_in_graph g.old keep.now (take (lent_words g.old mapping.old) mapping.old)) }
 {
@@ -115,8 +107,8 @@ pub fn perform_in_graph(g: &mut [u64], mapping: &mut [u64], bytes: &[u8], line: 
     }
     let tag = tag_in(bytes);
     match tag {
-        MaybeTag::Some(named) => perform_body(g, mapping, named, &bytes[HEADER..], line),
-        MaybeTag::None => Step::Last(put_bad(line)),
+        Some(named) => perform_body(g, mapping, named, &bytes[HEADER..], line),
+        None => Step::Last(put_bad(line)),
     }
 }
 
@@ -139,8 +131,8 @@ fn is_record(bytes: &[u8]) -> bool
 {
     let tag = tag_in(bytes);
     match tag {
-        MaybeTag::Some(named) => is_body(named, &bytes[HEADER..]),
-        MaybeTag::None => false,
+        Some(named) => is_body(named, &bytes[HEADER..]),
+        None => false,
     }
 }
 

@@ -7,15 +7,6 @@ use Rattle.range.specs.declared.ScalarType.TheVariants as ty
 use Rattle.evaluate.specs.declared.Unary.{Unary}
 use Rattle.evaluate.specs.declared.Binary.{Binary}
 use Rattle.evaluate.specs.Operator.{BOOL, BITS, INTEGER, unary_of, binary_of, is_unary_code, is_binary_code}
-use Rattle.request.specs.declared.codes.MaybeUnary.{Option Unary}
-use Rattle.request.specs.declared.codes.MaybeUnary.TheVariants as unaries
-use Rattle.request.specs.declared.codes.MaybeBinary.{Option Binary}
-use Rattle.request.specs.declared.codes.MaybeBinary.TheVariants as binaries
-use Rattle.request.specs.declared.codes.MaybeType.{Option ScalarType}
-use Rattle.request.specs.declared.codes.MaybeType.TheVariants as named
-
-
-
 
 -- a width as a u16; a larger one stays past the widest
 abbrev pub clamped : ℕ → ℕ

@@ -3,8 +3,6 @@ use Rattle.std.specs.Prelude.{cond, List, [], ◌∷◌, ℕ, ◌+◌, ◌-◌, 
 use Rattle.std.specs.Prelude.{Option, None, Some}
 use Rattle.word.specs.Option.{provided}
 use Rattle.io.specs.Digits.{last_digits}
-use Rattle.vector_lines.specs.declared.Number.{Number}
-use Rattle.vector_lines.specs.declared.Number.TheVariants as number
 
 -- a digit's value, `0` to `9` and then `a` to `f`, or 16 for another byte
 unfoldable pub digit_value : ℕ → ℕ
@@ -23,7 +21,3 @@ spelled l = spelled_after 0 l
 unfoldable pub hex_digits : ℕ → ℕ → List ℕ
 hex_digits k n = last_digits 16 k n
 
--- what a Number stands for
-abbrev pub number_in : Number → Option ℕ
-number_in (number.Value n) = Some n
-number_in number.Malformed = None

@@ -6,17 +6,11 @@ ghost use Rattle.std.specs.Prelude.{◌≡◌, ◌+◌, ◌≤◌, eqb, leb, len
 ghost use Rattle.word.specs.Value.{val, number_of};
 ghost use Rattle.word.specs.Option.{provided};
 ghost use Rattle.text.specs.Text.{placed, end_of, placed_in};
-ghost use Rattle.vector_lines.specs.Text.{digit_value, spelled, hex_digits, number_in};
+ghost use Rattle.vector_lines.specs.Text.{digit_value, spelled, hex_digits};
 
 use std::io::Read;
 use text::put_text_in_room;
 use word::Word;
-
-#[derive(Clone, Copy)]
-pub enum Number {
-    Value(u64),
-    Malformed,
-}
 
 // A hex digit's value, or 16 for another byte.
 fn digit_value(b: u8) -> u64
@@ -30,23 +24,23 @@ fn digit_value(b: u8) -> u64
 }
 
 // The number that up to 16 hex digits spell.
-pub fn number_of(text: &[u8]) -> Number
-    ensures { number_in result ≡ provided (leb (length text.now) 16) (spelled text.now) }
+pub fn number_of(text: &[u8]) -> Option<u64>
+    ensures { result ≡ provided (leb (length text.now) 16) (spelled text.now) }
 {
     if 16 < text.len() {
-        return Number::Malformed;
+        return None;
     }
     let mut n: u64 = 0;
     let mut i = 0;
     while i < text.len() {
         let d = digit_value(text[i]);
         if 15 < d {
-            return Number::Malformed;
+            return None;
         }
         n = n * 16 + d;
         i += 1;
     }
-    Number::Value(n)
+    Some(n)
 }
 
 // The word that 32 hex digits spell.
@@ -58,10 +52,10 @@ pub fn word_of(text: &[u8]) -> Option<Word>
     }
     let high = number_of(&text[..16]);
     let low = number_of(&text[16..]);
-    let Number::Value(hi) = high else {
+    let Some(hi) = high else {
         return None;
     };
-    let Number::Value(lo) = low else {
+    let Some(lo) = low else {
         return None;
     };
     Some(Word { lo: lo, hi: hi })

@@ -4,7 +4,7 @@ ghost use Rattle.std.specs.Prelude.{◌+◌, ◌≤◌, length};
 
 use crate::answers::{Answer, answer_of};
 use text::put_text_in_room;
-use vector_lines::{Number, number_of, put_word_in_room, word_of};
+use vector_lines::{number_of, put_word_in_room, word_of};
 
 fn answer_to(line: &[u8]) -> Answer {
     if line.len() != 69 {
@@ -16,7 +16,7 @@ fn answer_to(line: &[u8]) -> Answer {
     let first = number_of(&line[0..2]);
     let second = word_of(&line[3..35]);
     let third = word_of(&line[36..68]);
-    let Number::Value(code) = first else {
+    let Some(code) = first else {
         return Answer::Malformed;
     };
     let Some(a) = second else {

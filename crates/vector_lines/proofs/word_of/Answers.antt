@@ -4,7 +4,6 @@ use native.Mathlib.Omega.{arith}
 use mathlib.Core.Path.{sym}
 use lib.Seq.{length-take-le}
 use Rattle.word.specs.Value.{val}
-use Rattle.vector_lines.specs.Text.{number_in}
 use Rattle.vector_lines.proofs.Spelling.{parts_read}
 use Rattle.vector_lines.proofs.word_of.Goals as goal
 
@@ -17,18 +16,18 @@ slice_bounds-number_of-end c = sym (length-take-le 16 c.args.text.now (omega ari
 pub returns-in_default : goal.returns-in_default
 returns-in_default c =
     rw c.in_default.is at
-    (parts_read c.args.text.now c.if-text-ne32.false (number_in c.number_of-high.result)
-    (number_in c.number_of-low.result) c.number_of-high.ensures c.number_of-low.ensures)
+    (parts_read c.args.text.now c.if-text-ne32.false c.number_of-high.result
+    c.number_of-low.result c.number_of-high.ensures c.number_of-low.ensures)
 
 pub returns-in_default-low : goal.returns-in_default-low
 returns-in_default-low c =
     rw (c.in-Value.is, c.in_default-low.is) at
-    (parts_read c.args.text.now c.if-text-ne32.false (number_in c.number_of-high.result)
-    (number_in c.number_of-low.result) c.number_of-high.ensures c.number_of-low.ensures)
+    (parts_read c.args.text.now c.if-text-ne32.false c.number_of-high.result
+    c.number_of-low.result c.number_of-high.ensures c.number_of-low.ensures)
 
 pub returns : goal.returns
 unfolding val
 returns c =
     rw (c.in-Value.is, c.in-Value-low.is) at
-    (parts_read c.args.text.now c.if-text-ne32.false (number_in c.number_of-high.result)
-    (number_in c.number_of-low.result) c.number_of-high.ensures c.number_of-low.ensures)
+    (parts_read c.args.text.now c.if-text-ne32.false c.number_of-high.result
+    c.number_of-low.result c.number_of-high.ensures c.number_of-low.ensures)
