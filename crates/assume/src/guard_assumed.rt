@@ -15,6 +15,7 @@ use graph::NodeId;
 use graph::read::{range_at, resolve};
 use guard::reading::{behind_nots, comparison_at};
 use guard::Comparison;
+use range::Range;
 
 // The second node, unless the first had no room.
 fn then_refine(g: &mut [u64], first: Outcome, node: NodeId, limits: Limits) -> Outcome

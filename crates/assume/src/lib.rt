@@ -9,6 +9,7 @@ pub mod refine;
 
 use graph::NodeId;
 use range::Range;
+use word::Signed;
 
 // The least and the largest value, each if there is one.
 #[derive(Clone, Copy)]

@@ -1,6 +1,5 @@
 // The limits that a comparison of two ranges gives (assume.rs 104 to 150), and the part of a range between limits.
 ghost use Rattle.std.specs.Prelude.{cond, ◌≡◌};
-ghost use Rattle.std.proofs.Math.Option.{none};
 ghost use Rattle.word.specs.Value.{int_of, value_of, eq_z};
 ghost use Rattle.word.specs.Option.{provided};
 ghost use Rattle.range.specs.Interval.{bounds_of};
@@ -78,7 +77,7 @@ pub fn limited_to(range: Range) -> Limits
 
 // A least value alone.
 fn at_least(lower: Option<Signed>) -> Limits
-    ensures { limits_of result ≡ limits (value_of lower) none }
+    ensures { limits_of result ≡ limits (value_of lower) None }
 {
     Limits {
         lower: lower,
@@ -88,7 +87,7 @@ fn at_least(lower: Option<Signed>) -> Limits
 
 // A largest value alone.
 fn at_most(upper: Option<Signed>) -> Limits
-    ensures { limits_of result ≡ limits none (value_of upper) }
+    ensures { limits_of result ≡ limits None (value_of upper) }
 {
     Limits {
         lower: None,

@@ -13,6 +13,7 @@ use graph::NodeId;
 use graph::read::{range_at, resolve, type_at};
 use guard::reading::{behind_nots, comparison_at};
 use guard::Comparison;
+use range::Range;
 
 // Do limits narrow the node that this one is by now?
 fn narrows_at(g: &[u64], node: NodeId, limits: Limits) -> bool

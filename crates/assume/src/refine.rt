@@ -1,5 +1,4 @@
 // Refining a node to limits (assume.rs 26 to 79).
-ghost use Rattle.std.proofs.Math.Option.{none};
 ghost use Rattle.std.specs.Prelude.{◌≡◌, length};
 ghost use Rattle.range.specs.Interval.{bounds_of};
 ghost use Rattle.graph.specs.Layout.{REGION};
@@ -19,7 +18,7 @@ use range::Range;
 
 // Nothing follows.
 fn stopped(outcome: Outcome) -> Step
-    ensures { (outcome_of result.outcome ≡ outcome_of outcome) × (next_of result.next ≡ none) }
+    ensures { (outcome_of result.outcome ≡ outcome_of outcome) × (next_of result.next ≡ None) }
 {
     Step {
         outcome: outcome,

@@ -3,7 +3,6 @@ ghost use Rattle.std.specs.Prelude.{◌≡◌, length, ltb};
 ghost use Rattle.word.specs.Value.{val};
 ghost use Rattle.evaluate.specs.Operator.{BINARY};
 ghost use Rattle.graph.specs.Layout.{REGION, OPERATION, word_at};
-ghost use Rattle.std.proofs.Math.Option.{some};
 ghost use Rattle.range.specs.declared.ScalarType.TheVariants as ty;
 ghost use Rattle.graph.specs.Node as node;
 ghost use Rattle.fold.specs.Shape.{one_by_constant_of};
@@ -25,7 +24,7 @@ use word::Word;
 
 // An update that sets nothing.
 fn sets_nothing(id: NodeId) -> Option<Update>
-    ensures { maybe_update_of result ≡ some (record { preserved = id.0; literal = 0 }) }
+    ensures { maybe_update_of result ≡ Some (record { preserved = id.0; literal = 0 }) }
 {
     Some(Update {
         preserved: id,

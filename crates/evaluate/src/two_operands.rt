@@ -6,7 +6,6 @@ ghost use Rattle.evaluate.specs.Evaluate.{binary_value, unreduced, is_integer, b
 ghost use Rattle.evaluate.specs.Answer.{outcome_of, evaluate_binary};
 ghost use Rattle.evaluate.specs.U128 as u128;
 ghost use Rattle.evaluate.specs.I128 as i128;
-ghost use Rattle.std.proofs.Math.Option.{some};
 
 use crate::code::WIDEST;
 use crate::pattern::{extended, from_bool, pattern_of, reduced, to_u32};
@@ -27,7 +26,7 @@ fn is_integer(ty: ScalarType) -> bool
 }
 
 fn add(ty: ScalarType, a: Word, b: Word) -> Option<Word>
-    ensures { number_of result ≡ by_type ty (signedly i128.checked_add (val a) (val b)) (some (u128.wrapping_add (val a) (val b))) }
+    ensures { number_of result ≡ by_type ty (signedly i128.checked_add (val a) (val b)) (Some (u128.wrapping_add (val a) (val b))) }
 {
     if is_integer(ty) {
         pattern_of(a.as_signed().checked_add(b.as_signed()))
@@ -37,7 +36,7 @@ fn add(ty: ScalarType, a: Word, b: Word) -> Option<Word>
 }
 
 fn sub(ty: ScalarType, a: Word, b: Word) -> Option<Word>
-    ensures { number_of result ≡ by_type ty (signedly i128.checked_sub (val a) (val b)) (some (u128.wrapping_sub (val a) (val b))) }
+    ensures { number_of result ≡ by_type ty (signedly i128.checked_sub (val a) (val b)) (Some (u128.wrapping_sub (val a) (val b))) }
 {
     if is_integer(ty) {
         pattern_of(a.as_signed().checked_sub(b.as_signed()))
@@ -47,7 +46,7 @@ fn sub(ty: ScalarType, a: Word, b: Word) -> Option<Word>
 }
 
 fn mul(ty: ScalarType, a: Word, b: Word) -> Option<Word>
-    ensures { number_of result ≡ by_type ty (signedly i128.checked_mul (val a) (val b)) (some (u128.wrapping_mul (val a) (val b))) }
+    ensures { number_of result ≡ by_type ty (signedly i128.checked_mul (val a) (val b)) (Some (u128.wrapping_mul (val a) (val b))) }
 {
     if is_integer(ty) {
         pattern_of(a.as_signed().checked_mul(b.as_signed()))

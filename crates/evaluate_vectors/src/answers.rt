@@ -6,6 +6,7 @@ use evaluate::one_operand::evaluate_unary;
 use evaluate::two_operands::evaluate_binary;
 use range::{Range, ScalarType};
 use word::Word;
+use answer::Refusal;
 
 // From here on a vector asks for the range of an operator's node, its code above this.
 const RULES: u64 = 64;

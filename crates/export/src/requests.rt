@@ -10,6 +10,7 @@ use graph::{EffectId, InputId, NodeId};
 use request::Request;
 use request::codes::{binary_by_code, clamped_width, range_by_words, truth_by_number, type_by_code, unary_by_code};
 use word::Word;
+use range::Range;
 
 // The numbers of a call. A type is its code and width, a 128-bit number two, low half first.
 #[derive(Clone, Copy)]

@@ -12,7 +12,8 @@ use evaluate::Binary;
 use graph::layout::LIMIT;
 use graph::read::{literal, operation_at};
 use graph::{NodeId, Operation};
-use range::ScalarType;
+use range::{Range, ScalarType};
+use word::Word;
 
 pub fn same_type(a: ScalarType, b: ScalarType) -> bool
     ensures { result ≡ same_type a b }

@@ -8,7 +8,7 @@ use crate::Operation;
 use crate::layout::{CONCAT, CONSTANT, EFFECT, INPUT, REFINE, SIZE, SLICE};
 use evaluate::code::{BITS, BOOL, INTEGER};
 use evaluate::type_width;
-use range::ScalarType;
+use range::{Range, ScalarType};
 use word::Word;
 
 // The fields of an operation: its code and three words.

@@ -10,7 +10,7 @@ use crate::encode::words_of;
 use crate::layout::{FIRST, KEY, LIMIT, OPERATION, SIZE, WORDS, X, Y, count};
 use crate::read::resolve;
 use crate::{Built, NodeId, Operation};
-use range::ScalarType;
+use range::{Range, ScalarType};
 
 // Are the words from `at` on the node's key, one by one?
 fn same_words(g: &[u64], at: usize, words: &[u64; SIZE]) -> bool

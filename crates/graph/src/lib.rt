@@ -11,7 +11,7 @@ pub mod read;
 pub mod well_formed;
 
 use evaluate::{Binary, Unary};
-use range::ScalarType;
+use range::{Range, ScalarType};
 use word::Word;
 
 #[derive(Clone, Copy)]

@@ -12,6 +12,7 @@ use native::{Answer, by_name, reading};
 use range::ScalarType;
 use std::io::{Stdout, Write};
 use word::Word;
+use answer::Refusal;
 
 // An answer as one byte: a number below ten is its digit, Done is d, None and a refusal are n and r.
 fn letter(answer: Result<Answer, Refusal>) -> u8 {

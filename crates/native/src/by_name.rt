@@ -11,9 +11,10 @@ use crate::Answer;
 use crate::perform::{call, call_in_graph};
 use evaluate::{Binary, Unary};
 use graph::{EffectId, InputId, NodeId};
-use range::ScalarType;
+use range::{Range, ScalarType};
 use request::Request;
 use word::Word;
+use answer::Refusal;
 
 pub fn constant_in_graph(g: &mut [u64], ty: ScalarType, value: Word) -> Result<Answer, Refusal>
     requires { is_graph g.old ≡ true }

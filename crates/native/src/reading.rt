@@ -13,8 +13,9 @@ use graph::layout::count;
 use graph::read::type_at;
 use graph::well_formed::is_graph;
 use graph::{NodeId, read};
-use guard::guarded;
+use guard::{Guard, guarded};
 use range::ScalarType;
+use word::Word;
 
 // The value of a constant, or None.
 pub fn literal_in_graph(g: &[u64], id: NodeId) -> Result<Option<Word>, Refusal>

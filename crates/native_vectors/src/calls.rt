@@ -11,6 +11,7 @@ use graph::{EffectId, InputId, NodeId};
 use native::{Answer, by_name, reading};
 use range::{Range, ScalarType};
 use word::Word;
+use answer::Refusal;
 
 // The last word from which four can be asked for.
 const LAST: u64 = (REGION - 3) as u64;

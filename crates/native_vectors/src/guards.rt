@@ -11,6 +11,7 @@ use guard::Guard;
 use native::by_name::assume_guard;
 use native::reading::guard;
 use word::Word;
+use answer::Refusal;
 
 // One more than the largest id that a guard's word has room for.
 const IDS: u64 = 0x1_0000_0000;

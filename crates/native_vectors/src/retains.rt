@@ -5,6 +5,7 @@ use crate::lines::Fields;
 use crate::region::{peek, put};
 use native::retain_nodes::retain_unmarked;
 use word::Word;
+use answer::Refusal;
 
 // The most elements of a keep list or a mapping.
 const ROOM: u64 = 256;

@@ -6,7 +6,7 @@ pub mod one_operand;
 use bitfield::Masked;
 use evaluate::{Binary, Unary};
 use graph::{NodeId, Operation};
-use range::ScalarType;
+use range::{Range, ScalarType};
 use word::Word;
 
 // What a builder does next. Offsets are u64, so that no sum of them is too large.

@@ -17,7 +17,8 @@ use fold::shape::{fits, is_not_negative, refined_at, same_type};
 use graph::layout::LIMIT;
 use graph::read::{literal, operation_at, range_at, resolve, type_at};
 use graph::{NodeId, Operation};
-use range::ScalarType;
+use range::{Range, ScalarType};
+use word::Word;
 
 // A value seen at another type.
 fn view_plan(ty: ScalarType, range: Option<Range>, value: NodeId) -> Plan

@@ -3,7 +3,6 @@ ghost use Rattle.std.specs.Prelude.{◌≡◌, length, eqb};
 ghost use Rattle.range.specs.Interval.{interval_of};
 ghost use Rattle.word.specs.Value.{number_of};
 ghost use Rattle.word.specs.Option.{provided, from_bool};
-ghost use Rattle.std.proofs.Math.Option.{some};
 ghost use Rattle.range.specs.declared.ScalarType.TheVariants as type;
 ghost use Rattle.plan.specs.Plan as plan;
 ghost use Rattle.graph.specs.Layout.{REGION};
@@ -27,7 +26,7 @@ use graph::read::{literal, range_at};
 use graph::{NodeId, Operation};
 use plan::one_operand::constant_or_none;
 use plan::{Attempt, First, Plan, Rest};
-use range::ScalarType;
+use range::{Range, ScalarType};
 use word::Word;
 
 // Does a constant on the left go to the right?
@@ -65,13 +64,13 @@ fn compared_plan(op: Binary, left: Option<Range>, right: Option<Range>) -> Optio
 }
 
 fn truth(value: bool) -> Option<Plan>
-    ensures { decided_of result ≡ some (plan.constant type.Bool (from_bool value)) }
+    ensures { decided_of result ≡ Some (plan.constant type.Bool (from_bool value)) }
 {
     Some(Plan::Constant(from_bool(value), ScalarType::Bool))
 }
 
 fn zero(ty: ScalarType) -> Option<Plan>
-    ensures { decided_of result ≡ some (plan.constant ty 0) }
+    ensures { decided_of result ≡ Some (plan.constant ty 0) }
 {
     Some(Plan::Constant(Word { lo: 0, hi: 0 }, ty))
 }

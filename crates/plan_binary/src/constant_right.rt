@@ -3,7 +3,6 @@ ghost use Rattle.std.specs.Prelude.{◌≡◌, length};
 ghost use Rattle.word.specs.Value.{val, number_of};
 ghost use Rattle.word.specs.Option.{given, or_else};
 ghost use Rattle.graph.specs.Layout.{REGION};
-ghost use Rattle.std.proofs.Math.Option.{none};
 ghost use Rattle.range.specs.declared.ScalarType.TheVariants as type;
 ghost use Rattle.graph.specs.Node.{type_at};
 ghost use Rattle.fold.specs.Shape.{one_by_constant_of};
@@ -256,7 +255,7 @@ pub(crate) fn sum_plan(
     known: Option<Word>,
 ) -> Option<Plan>
     requires { length g.now ≡ REGION }
-    ensures { decided_of result ≡ given (number_of known) (sum_plan g.now ty op left.0) none }
+    ensures { decided_of result ≡ given (number_of known) (sum_plan g.now ty op left.0) None }
 {
     match known {
         Some(value) => sum_of_constant(g, ty, op, left, value),

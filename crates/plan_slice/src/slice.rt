@@ -18,7 +18,7 @@ use graph::read::{literal, operation_at, range_at, type_at};
 use graph::{NodeId, Operation};
 use plan::{Attempt, First, Plan, Rest};
 use range::typed::type_range;
-use range::ScalarType;
+use range::{Range, ScalarType};
 use word::Word;
 
 // The value from the offset up, 0 from offset 128 on.

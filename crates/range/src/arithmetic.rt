@@ -1,6 +1,5 @@
 // The ranges of sums, differences, remainders, unsigned quotients, And and shifts.
 ghost use Rattle.std.specs.Prelude.{◌≡◌, false, pos};
-ghost use Rattle.std.proofs.Math.Option.{some};
 ghost use Rattle.word.specs.Value.{int_of, value_of, is_neg};
 ghost use Rattle.range.specs.Interval.{bounds_of, interval_of, between, add_interval, sub_interval, neg_interval, and_interval, udiv_interval, urem_interval, rem_interval, shl_interval, shr_interval, clamped, shifted, cut};
 
@@ -22,7 +21,7 @@ pub fn between(low: Option<Signed>, high: Option<Signed>) -> Option<Range>
 
 // The range from 0 up.
 pub(crate) fn up_to(high: Option<Signed>) -> Option<Range>
-    ensures { interval_of result ≡ between (some (pos 0)) (value_of high) }
+    ensures { interval_of result ≡ between (Some (pos 0)) (value_of high) }
 {
     between(Some(Signed { lo: 0, hi: 0 }), high)
 }

@@ -6,6 +6,7 @@ ghost use Rattle.record.specs.Record.{little};
 
 use request::codes::type_by_code;
 use word::Word;
+use range::ScalarType;
 
 pub(crate) fn wide(byte: u8) -> u64
     ensures { result ≡ byte }

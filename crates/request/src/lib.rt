@@ -7,7 +7,7 @@ pub mod typing;
 
 use evaluate::{Binary, Unary};
 use graph::{EffectId, InputId, NodeId};
-use range::ScalarType;
+use range::{Range, ScalarType};
 use word::Word;
 
 // A call that answers an id, None, Done or a refusal.

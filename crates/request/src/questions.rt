@@ -13,7 +13,7 @@ use evaluate::type_width;
 use fold::shape::same_type;
 use graph::NodeId;
 use graph::read::type_at;
-use range::ScalarType;
+use range::{Range, ScalarType};
 use word::Word;
 
 fn is_width(width: u16) -> bool

@@ -1,5 +1,5 @@
 // The operations by their codes: the high digit is the group, the low one the operation.
-use word::{Signed, Word};
+use word::{Division, Signed, Word};
 
 // A pattern of 128 bits, or Rust's None. A code that no operation has is malformed.
 #[derive(Clone, Copy)]
