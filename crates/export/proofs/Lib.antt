@@ -1,1 +1,1 @@
-pub mod Five
+pub mod Numbers

@@ -16,6 +16,7 @@ use crate::requests::{
 use native::perform::{call, call_in_graph};
 use request::Request;
 use word::Word;
+use native::Numbered;
 
 fn answered_in_graph(g: &mut [u64], numbers: Numbers) -> u64
     requires { is_graph g.old ≡ true }

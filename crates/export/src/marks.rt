@@ -8,6 +8,7 @@ ghost use Rattle.export.specs.Marks.{MarkedAs, ReturnedAs};
 use crate::reading::number_of;
 use mark::well_formed::is_marked;
 use mark::{MarkId, calls};
+use native::Numbered;
 
 // Question 1 of a graph with its marks: 1 or 0.
 #[unsafe(no_mangle)]

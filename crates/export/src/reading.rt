@@ -11,7 +11,7 @@ ghost use Rattle.guard.specs.Guard.{one_guard_of, guard_of, match_of};
 ghost use Rattle.native.specs.Call.{answer_number, literal_in_graph, literal_call, resolve_in_graph, resolve_call};
 ghost use Rattle.native.specs.Guard.{reading_of};
 ghost use Rattle.export.specs.Export.{exported};
-ghost use Rattle.export.specs.Reading.{written, unary_evaluated, binary_evaluated, masked, words_at, node_in_graph, node_call, guard_words, guard_written, guard_by_number, guard_numbered, match_number, values_guard, matches_by_code};
+ghost use Rattle.export.specs.Reading.{put, written, unary_evaluated, binary_evaluated, masked, words_at, node_in_graph, node_call, guard_words, guard_written, guard_by_number, guard_numbered, values_guard, matches_by_code};
 
 use answer::Refusal;
 use evaluate::code::WIDEST_WORD;
@@ -21,7 +21,7 @@ use graph::NodeId;
 use graph::layout::{FIRST, SIZE, WORDS, count};
 use graph::well_formed::is_graph;
 use guard::Guard;
-use native::{Answer, reading, refused_as};
+use native::{Answer, Numbered, reading, refused_as};
 use range::typed::mask;
 use request::codes::{binary_by_code, truth_by_number, type_by_code, unary_by_code};
 use word::Word;
@@ -42,20 +42,24 @@ pub(crate) fn number_of(truth: bool) -> u64
     if truth { 1 } else { 0 }
 }
 
-// A value into a slice of two words, low half first.
+// Words go into a slice of their length.
+fn put(out: &mut [u64], words: &[u64]) -> u64
+    ensures { exported result out.new ≡ put (length words.now) words.now out.old }
+{
+    if out.len() != words.len() {
+        return WRONG_LENGTH;
+    }
+    out.copy_from_slice(words);
+    1
+}
+
+// A value goes into a slice of two words, low half first.
 fn write_value(out: &mut [u64], value: Result<Option<Word>, Refusal>) -> u64
     ensures { exported result out.new ≡ written (outcome_of value) out.old }
 {
     match value {
-        Ok(Some(found)) => {
-            if out.len() != 2 {
-                return WRONG_LENGTH;
-            }
-            out[0] = found.lo;
-            out[1] = found.hi;
-            1
-        }
-        Ok(None) => Ok(Answer::None).number(),
+        Ok(Some(found)) => put(out, &[found.lo, found.hi]),
+        Ok(None) => Answer::None.number(),
         Err(refusal) => refused_as(refusal),
     }
 }
@@ -91,17 +95,14 @@ pub extern "C" fn scalars_resolve(g: &[u64], id: u64) -> u64
     reading::resolve(g, NodeId(id)).number()
 }
 
-// Copies the words of a node.
-fn copy_node(g: &[u64], node: u64, out: &mut [u64])
-    requires { (length g.now ≡ REGION) × (node < LIMIT) × (length out.old ≡ WORDS) }
-    ensures { out.new ≡ words_at g.now node }
+// The words of a node.
+fn words_at(g: &[u64], node: u64) -> &[u64]
+    requires { (length g.now ≡ REGION) × (node < LIMIT) }
+    ensures words { result.now ≡ words_at g.now node }
+    ensures len { length result.now ≡ WORDS }
 {
     let start = (FIRST + WORDS * node) as usize;
-    let mut k = 0;
-    while k < SIZE {
-        out[k] = g[start + k];
-        k += 1;
-    }
+    &g[start..start + SIZE]
 }
 
 // A node: 1 and its words, which are its type, range, operation and alias.
@@ -113,11 +114,7 @@ pub extern "C" fn scalars_node_in_graph(g: &[u64], id: u64, out: &mut [u64]) -> 
     if count(g) <= id {
         return refused_as(Refusal::Id);
     }
-    if out.len() != SIZE {
-        return WRONG_LENGTH;
-    }
-    copy_node(g, id, out);
-    1
+    put(out, words_at(g, id))
 }
 
 #[unsafe(no_mangle)]
@@ -131,33 +128,25 @@ pub extern "C" fn scalars_node(g: &[u64], id: u64, out: &mut [u64]) -> u64
     }
 }
 
-// The words of a guard, into a slice of five.
-fn put_guard(out: &mut [u64], guard: Guard)
-    requires { length out.old ≡ 5 }
-    ensures { out.new ≡ guard_words (one_guard_of guard) }
+// The words of a guard.
+fn words_of(guard: Guard) -> [u64; 5]
+    ensures { result ≡ guard_words (one_guard_of guard) }
 {
-    let op = guard.operation;
-    let left = guard.left;
-    let right = guard.right;
-    out[0] = op.code();
-    out[1] = left.0;
-    out[2] = right.0;
-    out[3] = number_of(guard.expected);
-    out[4] = number_of(guard.host64);
+    [
+        guard.operation.code(),
+        guard.left.0,
+        guard.right.0,
+        number_of(guard.expected),
+        number_of(guard.host64),
+    ]
 }
 
 fn write_guard(out: &mut [u64], found: Result<Option<Guard>, Refusal>) -> u64
     ensures { exported result out.new ≡ guard_written (reading_of found) out.old }
 {
     match found {
-        Ok(Some(guard)) => {
-            if out.len() != 5 {
-                return WRONG_LENGTH;
-            }
-            put_guard(out, guard);
-            1
-        }
-        Ok(None) => Ok(Answer::None).number(),
+        Ok(Some(guard)) => put(out, &words_of(guard)),
+        Ok(None) => Answer::None.number(),
         Err(refusal) => refused_as(refusal),
     }
 }
@@ -199,15 +188,6 @@ pub extern "C" fn scalars_guard(g: &[u64], condition: u64, expected: u64, out: &
         scalars_guard_in_graph(g, condition, expected, out)
     } else {
         refused_as(Refusal::Graph)
-    }
-}
-
-fn match_number(matched: Result<bool, Refusal>) -> u64
-    ensures { result ≡ match_number (match_of matched) }
-{
-    match matched {
-        Ok(truth) => number_of(truth),
-        Err(refusal) => refused_as(refusal),
     }
 }
 
@@ -261,7 +241,7 @@ pub extern "C" fn scalars_matches(
         lo: right_low,
         hi: right_high,
     };
-    match_number(guard.matches(left, right))
+    guard.matches(left, right).number()
 }
 
 // An operator by its code on patterns, after question 2.

@@ -5,6 +5,7 @@ ghost use Rattle.mark.specs.Mark.{retain_in_graph, retain_call};
 ghost use Rattle.export.specs.Marks.{KeptAs};
 
 use mark::retain_nodes::{retain, retain_in_graph};
+use native::Numbered;
 
 // For a caller that knows the regions to be a graph with its marks: on other regions nothing is promised, not even that lent words
 // alone are touched.

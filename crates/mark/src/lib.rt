@@ -7,23 +7,16 @@ pub mod moving;
 pub mod retain_nodes;
 pub mod well_formed;
 
-ghost use Rattle.std.specs.Prelude.{◌≡◌};
-ghost use Rattle.mark.specs.Mark.{marking_of, mark_number};
-
-use answer::Refusal;
-use native::refused_as;
+use native::Numbered;
 
 #[derive(Clone, Copy)]
 pub struct MarkId(pub u64);
 
-impl Marked {
-    // The answer as one number: a mark is its own.
-    pub fn number(self) -> u64
-        ensures { result ≡ mark_number (marking_of self) }
-    {
-        match self {
-            Ok(mark) => mark.0,
-            Err(refusal) => refused_as(refusal),
-        }
+// A mark is its own number.
+impl Numbered for MarkId {
+    ghost as_number = { λ k. k.0 };
+
+    fn number(self) -> u64 {
+        self.0
     }
 }

@@ -38,6 +38,17 @@ answer_number nothing = 2 ^ 64 - 1
 answer_number done = 2 ^ 63
 answer_number (refused r) = refused_as r
 
+-- an answer that is no refusal as one number
+abbrev pub answer_as : Answer → ℕ
+answer_as (answer.Id i) = i.0
+answer_as answer.None = 2 ^ 64 - 1
+answer_as answer.Done = 2 ^ 63
+
+-- an answer with its number, or a refusal, as one number
+abbrev pub numbered : {A : Type 0} → (A → ℕ) → Result A Refusal → ℕ
+numbered f (Ok a) = f a
+numbered f (Err r) = refused_as r
+
 -- an answer, and the words of the region after the call
 pub record Called : Type 0 where
   pub answer : Response

@@ -1,3 +1,4 @@
+use Rattle.export.proofs.Numbers.{number_match}
 use Rattle.word.specs.Value.{val}
 use Rattle.export.specs.Reading.{match_number, matches_by_code}
 use mathlib.Core.Path.{ap, ◌∙◌}
@@ -9,4 +10,4 @@ returns-in_default c = rw (← c.values_guard-named.ensures, c.in_default.is) c.
 
 pub returns : goal.returns
 unfolding matches_by_code val
-returns c = rw (← c.values_guard-named.ensures, c.in-Some.is) (c.match_number.ensures ∙ ap match_number c.matches.ensures)
+returns c = rw (← c.values_guard-named.ensures, c.in-Some.is) (c.number.ensures ∙ number_match c.matches.result ∙ ap match_number c.matches.ensures)

@@ -1,3 +1,4 @@
+use Rattle.native.proofs.Numbers.{number_kept}
 use mathlib.Core.Path.{ap, ◌∙◌}
 use Rattle.native.specs.Retain.{outcome_number}
 use Rattle.mark.specs.Mark.{Retaining}
@@ -5,7 +6,7 @@ use Rattle.export.proofs.retain_nodes.scalars_retain.Goals as goal
 
 pub returns : goal.returns
 returns c = (
-  c.number.ensures ∙ ap (λ (r : Retaining). outcome_number r.retention.outcome) c.retain.ensures,
+  c.number.ensures ∙ number_kept c.retain.result ∙ ap (λ (r : Retaining). outcome_number r.retention.outcome) c.retain.ensures,
   ap (λ (r : Retaining). r.retention.words) c.retain.ensures,
   ap (λ (r : Retaining). r.marks) c.retain.ensures,
   ap (λ (r : Retaining). r.retention.mapping) c.retain.ensures,

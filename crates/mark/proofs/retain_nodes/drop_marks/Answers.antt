@@ -1,4 +1,4 @@
 use Rattle.mark.proofs.retain_nodes.drop_marks.Goals as goal
 
-pub returns-in-Kept : goal.returns-in-Kept
-returns-in-Kept c = rw c.in-Kept.is c.leave_standing.ensures
+pub returns-in-Ok : goal.returns-in-Ok
+returns-in-Ok c = rw c.in-Ok.is c.leave_standing.ensures
