@@ -1,6 +1,6 @@
 // The calls that read, for C and Rust: what they find goes into a lent slice, and the answer is 1. A slice of another length is answered
 // WRONG_LENGTH. `.._in_graph` does not ask question 1: on a region that is no graph nothing is promised of it.
-ghost use Rattle.std.specs.Prelude.{true, ◌≡◌, length, ◌<◌};
+ghost use Rattle.std.specs.Prelude.{true, ◌≡◌, length, ◌<◌, ◌/◌, ◌%◌, ◌^◌, [], ◌∷◌};
 ghost use Rattle.word.specs.Value.{val};
 ghost use Rattle.word.specs.Option.{from_bool};
 ghost use Rattle.evaluate.specs.Answer.{outcome_of};
@@ -53,12 +53,19 @@ fn put(out: &mut [u64], words: &[u64]) -> u64
     1
 }
 
-// A value goes into a slice of two words, low half first.
+// A word's halves, the low one first.
+fn halves_of(word: Word) -> [u64; 2]
+    ensures { result ≡ val word % 2 ^ 64 ∷ val word / 2 ^ 64 ∷ [] }
+{
+    [word.lo, word.hi]
+}
+
+// A value goes into a slice of two words.
 fn write_value(out: &mut [u64], value: Result<Option<Word>, Refusal>) -> u64
     ensures { exported result out.new ≡ written (outcome_of value) out.old }
 {
     match value {
-        Ok(Some(found)) => put(out, &[found.lo, found.hi]),
+        Ok(Some(found)) => put(out, &halves_of(found)),
         Ok(None) => Answer::None.number(),
         Err(refusal) => refused_as(refusal),
     }
