@@ -18,6 +18,7 @@ use graph::read::type_at;
 use range::arithmetic::between;
 use range::{Range, ScalarType};
 use word::{Signed, Word};
+use graph::layout::Region;
 
 // The x of Bits(width) with x + offset, or x - offset, equal to the value.
 fn undone_bits(width: u16, op: Binary, offset: Word, value: Signed) -> Word
@@ -96,8 +97,7 @@ fn next_at(node: NodeId, range: Option<Range>) -> Option<Next>
 }
 
 // The base of an operation by a constant, if it has the type.
-fn base_by(g: &[u64], ty: ScalarType, range: Range, shape: ByConstant) -> Option<Next>
-    requires { length g.now ≡ REGION }
+fn base_by(g: &Region, ty: ScalarType, range: Range, shape: ByConstant) -> Option<Next>
     ensures { next_of result ≡ base_by g.now ty (bounds_of range) (one_by_constant_of shape) }
 {
     let base = shape.base;
@@ -110,8 +110,7 @@ fn base_by(g: &[u64], ty: ScalarType, range: Range, shape: ByConstant) -> Option
 }
 
 // What follows for the base, if the node is, through its Refines, a sum with a constant.
-pub fn base_of(g: &[u64], node: NodeId, range: Range) -> Option<Next>
-    requires { length g.now ≡ REGION }
+pub fn base_of(g: &Region, node: NodeId, range: Range) -> Option<Next>
     ensures { next_of result ≡ base_of g.now node.0 (bounds_of range) }
 {
     let found = by_constant_at(g, origin(g, node));

@@ -16,10 +16,10 @@ use graph::read::{range_at, resolve};
 use guard::reading::{behind_nots, comparison_at};
 use guard::Comparison;
 use range::Range;
+use graph::layout::Region;
 
 // The second node, unless the first had no room.
-fn then_refine(g: &mut [u64], first: Outcome, node: NodeId, limits: Limits) -> Outcome
-    requires { length g.old ≡ REGION }
+fn then_refine(g: &mut Region, first: Outcome, node: NodeId, limits: Limits) -> Outcome
     ensures { assumed (outcome_of result) g.new ≡ then_refined (outcome_of first) g.old node.0 (limits_of limits) }
 {
     match first {
@@ -29,8 +29,7 @@ fn then_refine(g: &mut [u64], first: Outcome, node: NodeId, limits: Limits) -> O
     }
 }
 
-fn refine_both(g: &mut [u64], a: NodeId, b: NodeId, limits: Pair) -> Outcome
-    requires { length g.old ≡ REGION }
+fn refine_both(g: &mut Region, a: NodeId, b: NodeId, limits: Pair) -> Outcome
     ensures { assumed (outcome_of result) g.new ≡ refined_both g.old a.0 b.0 (pair_of limits) }
 {
     let left = limits.left;
@@ -41,7 +40,7 @@ fn refine_both(g: &mut [u64], a: NodeId, b: NodeId, limits: Pair) -> Outcome
 
 // By the ranges that both operands have before the first of them is refined.
 fn assume_by(
-    g: &mut [u64],
+    g: &mut Region,
     expected: bool,
     op: Binary,
     a: NodeId,
@@ -49,7 +48,6 @@ fn assume_by(
     left: Option<Range>,
     right: Option<Range>,
 ) -> Outcome
-    requires { length g.old ≡ REGION }
     ensures { assumed (outcome_of result) g.new ≡ assumed_by g.old expected op a.0 b.0 (interval_of left) (interval_of right) }
 {
     let Some(x) = left else {
@@ -66,8 +64,7 @@ fn assume_by(
 }
 
 // A comparison of two nodes, which are resolved.
-fn assume_comparison(g: &mut [u64], expected: bool, comparison: Comparison) -> Outcome
-    requires { length g.old ≡ REGION }
+fn assume_comparison(g: &mut Region, expected: bool, comparison: Comparison) -> Outcome
     ensures { assumed (outcome_of result) g.new ≡ assumed_of g.old expected (one_comparison_of comparison) }
 {
     let a = resolve(g, comparison.left);
@@ -79,8 +76,7 @@ fn assume_comparison(g: &mut [u64], expected: bool, comparison: Comparison) -> O
 }
 
 // A condition, which is not resolved.
-pub fn assume_guard(g: &mut [u64], condition: NodeId, expected: bool) -> Outcome
-    requires { length g.old ≡ REGION }
+pub fn assume_guard(g: &mut Region, condition: NodeId, expected: bool) -> Outcome
     ensures { assumed (outcome_of result) g.new ≡ assumed_guard g.old condition.0 expected }
 {
     let behind = behind_nots(g, condition, expected);

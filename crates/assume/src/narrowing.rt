@@ -14,10 +14,10 @@ use graph::read::{range_at, resolve, type_at};
 use guard::reading::{behind_nots, comparison_at};
 use guard::Comparison;
 use range::Range;
+use graph::layout::Region;
 
 // Do limits narrow the node that this one is by now?
-fn narrows_at(g: &[u64], node: NodeId, limits: Limits) -> bool
-    requires { length g.now ≡ REGION }
+fn narrows_at(g: &Region, node: NodeId, limits: Limits) -> bool
     ensures { result ≡ narrows_at g.now node.0 (limits_of limits) }
 {
     let target = resolve(g, node);
@@ -28,8 +28,7 @@ fn narrows_at(g: &[u64], node: NodeId, limits: Limits) -> bool
     narrows(type_at(g, target), old, meet(old, limits))
 }
 
-fn narrows_either(g: &[u64], a: NodeId, b: NodeId, limits: Pair) -> bool
-    requires { length g.now ≡ REGION }
+fn narrows_either(g: &Region, a: NodeId, b: NodeId, limits: Pair) -> bool
     ensures { result ≡ narrows_either g.now a.0 b.0 (pair_of limits) }
 {
     let left = limits.left;
@@ -43,7 +42,7 @@ fn narrows_either(g: &[u64], a: NodeId, b: NodeId, limits: Pair) -> bool
 
 // By the ranges of both operands.
 fn narrows_by(
-    g: &[u64],
+    g: &Region,
     expected: bool,
     op: Binary,
     a: NodeId,
@@ -51,7 +50,6 @@ fn narrows_by(
     left: Option<Range>,
     right: Option<Range>,
 ) -> bool
-    requires { length g.now ≡ REGION }
     ensures { result ≡ narrows_by g.now expected op a.0 b.0 (interval_of left) (interval_of right) }
 {
     let Some(x) = left else {
@@ -68,8 +66,7 @@ fn narrows_by(
 }
 
 // A comparison of two nodes, which are resolved.
-fn narrows_comparison(g: &[u64], expected: bool, comparison: Comparison) -> bool
-    requires { length g.now ≡ REGION }
+fn narrows_comparison(g: &Region, expected: bool, comparison: Comparison) -> bool
     ensures { result ≡ narrows_of g.now expected (one_comparison_of comparison) }
 {
     let a = resolve(g, comparison.left);
@@ -81,8 +78,7 @@ fn narrows_comparison(g: &[u64], expected: bool, comparison: Comparison) -> bool
 }
 
 // A condition, which is not resolved.
-pub fn is_narrowing(g: &[u64], condition: NodeId, expected: bool) -> bool
-    requires { length g.now ≡ REGION }
+pub fn is_narrowing(g: &Region, condition: NodeId, expected: bool) -> bool
     ensures { result ≡ is_narrowing g.now condition.0 expected }
 {
     let behind = behind_nots(g, condition, expected);

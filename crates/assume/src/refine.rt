@@ -11,7 +11,7 @@ use crate::limit::{limited_to, meet, narrows};
 use crate::{Limits, Outcome, Step};
 use graph::alias::set_alias;
 use graph::insert::insert;
-use graph::layout::LIMIT;
+use graph::layout::{LIMIT, Region};
 use graph::read::{range_at, resolve, type_at};
 use graph::{Built, NodeId, Operation};
 use range::Range;
@@ -27,8 +27,7 @@ fn stopped(outcome: Outcome) -> Step
 }
 
 // The Refine that was stored or found becomes the node's alias.
-fn alias_to(g: &mut [u64], node: NodeId, range: Range, built: Built) -> Step
-    requires { length g.old ≡ REGION }
+fn alias_to(g: &mut Region, node: NodeId, range: Range, built: Built) -> Step
     ensures { step (outcome_of result.outcome) (next_of result.next) g.new ≡ alias_to node.0 (bounds_of range) (built_of built) g.old }
 {
     match built {
@@ -45,8 +44,7 @@ fn alias_to(g: &mut [u64], node: NodeId, range: Range, built: Built) -> Step
     }
 }
 
-fn narrow(g: &mut [u64], node: NodeId, range: Range) -> Step
-    requires { length g.old ≡ REGION }
+fn narrow(g: &mut Region, node: NodeId, range: Range) -> Step
     ensures { step (outcome_of result.outcome) (next_of result.next) g.new ≡ narrow g.old node.0 (bounds_of range) }
 {
     let ty = type_at(g, node);
@@ -55,8 +53,7 @@ fn narrow(g: &mut [u64], node: NodeId, range: Range) -> Step
 }
 
 // A node that has no alias, refined to limits.
-fn refine_step(g: &mut [u64], node: NodeId, limits: Limits) -> Step
-    requires { length g.old ≡ REGION }
+fn refine_step(g: &mut Region, node: NodeId, limits: Limits) -> Step
     ensures { step (outcome_of result.outcome) (next_of result.next) g.new ≡ refine_step g.old node.0 (limits_of limits) }
 {
     let range = range_at(g, node);
@@ -72,8 +69,7 @@ fn refine_step(g: &mut [u64], node: NodeId, limits: Limits) -> Step
 }
 
 // A node refined to limits, then the base of the sum that it is, and so on.
-pub fn refine(g: &mut [u64], so_far: Outcome, node: NodeId, limits: Limits) -> Outcome
-    requires { length g.old ≡ REGION }
+pub fn refine(g: &mut Region, so_far: Outcome, node: NodeId, limits: Limits) -> Outcome
     ensures { assumed (outcome_of result) g.new ≡ refined (outcome_of so_far) g.old node.0 (limits_of limits) }
 {
     let mut done = so_far;

@@ -14,6 +14,7 @@ use graph::read::{literal, operation_at, type_at};
 use graph::{NodeId, Operation};
 use range::ScalarType;
 use word::Word;
+use graph::layout::Region;
 
 // The most steps.
 pub const DEPTH: u64 = 64;
@@ -119,8 +120,8 @@ fn binary_bit(op: Binary, id: NodeId, mask: Option<Word>, base: NodeId, index: u
     }
 }
 
-fn operation_bit(g: &[u64], id: NodeId, index: u64, operation: Operation) -> BitStep
-    requires { (length g.now ≡ REGION) × (index < 128) }
+fn operation_bit(g: &Region, id: NodeId, index: u64, operation: Operation) -> BitStep
+    requires { index < 128 }
     ensures { step_of result ≡ bit_of g.now id.0 index (op_of operation) }
 {
     match operation {
@@ -156,8 +157,7 @@ fn operation_bit(g: &[u64], id: NodeId, index: u64, operation: Operation) -> Bit
 }
 
 // Where a bit of a node comes from. Past bit 127 and past the node's width it is 0.
-fn bit_step(g: &[u64], id: NodeId, index: u64) -> BitStep
-    requires { length g.now ≡ REGION }
+fn bit_step(g: &Region, id: NodeId, index: u64) -> BitStep
     ensures { step_of result ≡ bit_step g.now id.0 index }
 {
     if 128 <= index {
@@ -205,8 +205,7 @@ fn turned_by(turns: Turns, bit: Option<Bit>) -> Option<Bit>
 }
 
 // A bit of a node, by at most `left` steps.
-pub fn bit(g: &[u64], id: NodeId, index: u64, left: u64) -> Option<Bit>
-    requires { length g.now ≡ REGION }
+pub fn bit(g: &Region, id: NodeId, index: u64, left: u64) -> Option<Bit>
     ensures { maybe_bit_of result ≡ bit_at g.now left id.0 index }
 {
     let mut node = id.0;

@@ -15,7 +15,7 @@ use evaluate::code::BINARY;
 use fold::operator::same_binary;
 use fold::shape::{by_constant_at, same_type};
 use fold::ByConstant;
-use graph::layout::{OPERATION, word_at};
+use graph::layout::{OPERATION, Region, word_at};
 use graph::read::{literal, operation_at, type_at};
 use graph::{NodeId, Operation};
 use range::ScalarType;
@@ -33,8 +33,7 @@ fn sets_nothing(id: NodeId) -> Option<Update>
 }
 
 // An Or needs a constant, without which the fold ends.
-fn binary_update(g: &[u64], id: NodeId, op: Binary, left: NodeId, right: NodeId) -> Option<Update>
-    requires { length g.now ≡ REGION }
+fn binary_update(g: &Region, id: NodeId, op: Binary, left: NodeId, right: NodeId) -> Option<Update>
     ensures { maybe_update_of result ≡ update_of g.now id.0 (node.binary op left.0 right.0) }
 {
     if !same_binary(op, Binary::Or) {
@@ -50,8 +49,7 @@ fn binary_update(g: &[u64], id: NodeId, op: Binary, left: NodeId, right: NodeId)
     }
 }
 
-fn update_at(g: &[u64], id: NodeId) -> Option<Update>
-    requires { length g.now ≡ REGION }
+fn update_at(g: &Region, id: NodeId) -> Option<Update>
     ensures { maybe_update_of result ≡ update_at g.now id.0 }
 {
     let operation = operation_at(g, id);
@@ -106,8 +104,7 @@ fn changed_bits(op: Binary, base: NodeId, width: u16, value: Word, shape: ByCons
     }
 }
 
-fn fold_update(g: &[u64], op: Binary, base: NodeId, width: u16, update: Update) -> PairFold
-    requires { length g.now ≡ REGION }
+fn fold_update(g: &Region, op: Binary, base: NodeId, width: u16, update: Update) -> PairFold
     ensures { pair_fold_of result ≡ fold_update g.now op base.0 width (one_update_of update) }
 {
     let literal = update.literal;
@@ -122,8 +119,7 @@ fn fold_update(g: &[u64], op: Binary, base: NodeId, width: u16, update: Update) 
     }
 }
 
-fn fold_pair_of_bits(g: &[u64], op: Binary, base: NodeId, updated: NodeId, width: u16) -> PairFold
-    requires { length g.now ≡ REGION }
+fn fold_pair_of_bits(g: &Region, op: Binary, base: NodeId, updated: NodeId, width: u16) -> PairFold
     ensures { pair_fold_of result ≡ fold_typed g.now op base.0 updated.0 (ty.Bits width) }
 {
     if !same_type(type_at(g, updated), ScalarType::Bits(width)) {
@@ -137,8 +133,7 @@ fn fold_pair_of_bits(g: &[u64], op: Binary, base: NodeId, updated: NodeId, width
 }
 
 // One pair of base and update.
-fn fold_pair(g: &[u64], op: Binary, base: NodeId, updated: NodeId) -> PairFold
-    requires { length g.now ≡ REGION }
+fn fold_pair(g: &Region, op: Binary, base: NodeId, updated: NodeId) -> PairFold
     ensures { pair_fold_of result ≡ fold_pair g.now op base.0 updated.0 }
 {
     let ty = type_at(g, base);
@@ -159,16 +154,14 @@ fn found_in(pair: PairFold) -> Option<Masked>
     }
 }
 
-fn is_not_binary(g: &[u64], id: NodeId) -> bool
-    requires { length g.now ≡ REGION }
+fn is_not_binary(g: &Region, id: NodeId) -> bool
     ensures { result ≡ ltb (word_at g.now id.0 OPERATION) BINARY }
 {
     word_at(g, id.0, OPERATION) < BINARY
 }
 
 // The masked comparison of two nodes: the left one as base, or where it says so the right one. Where neither is a binary operation there is none.
-pub fn fold_masked_comparison(g: &[u64], op: Binary, left: NodeId, right: NodeId) -> Option<Masked>
-    requires { length g.now ≡ REGION }
+pub fn fold_masked_comparison(g: &Region, op: Binary, left: NodeId, right: NodeId) -> Option<Masked>
     ensures { maybe_mask_of result ≡ fold_masked_comparison g.now op left.0 right.0 }
 {
     if is_not_binary(g, left) && is_not_binary(g, right) {

@@ -13,6 +13,7 @@ use fold::shape::{fits, is_narrow};
 use graph::NodeId;
 use graph::read::{range_at, type_at};
 use word::Word;
+use graph::layout::Region;
 
 // The pattern in which one bit is set.
 fn power(index: u16) -> Word
@@ -50,8 +51,7 @@ fn is_own(base: Option<NodeId>, index: u16, id: NodeId, source: u64) -> bool
     source == index as u64 && is_base(base, id)
 }
 
-fn concat_bit(g: &[u64], high: NodeId, low: NodeId, low_width: u16, index: u16) -> Option<Bit>
-    requires { length g.now ≡ REGION }
+fn concat_bit(g: &Region, high: NodeId, low: NodeId, low_width: u16, index: u16) -> Option<Bit>
     ensures { maybe_bit_of result ≡ concat_bit g.now high.0 low.0 low_width index }
 {
     if index < low_width {
@@ -62,8 +62,7 @@ fn concat_bit(g: &[u64], high: NodeId, low: NodeId, low_width: u16, index: u16) 
 }
 
 // Has the low part no bits from its width on?
-fn low_fits(g: &[u64], low: NodeId, low_width: u16) -> bool
-    requires { length g.now ≡ REGION }
+fn low_fits(g: &Region, low: NodeId, low_width: u16) -> bool
     ensures { result ≡ low_fits g.now low.0 low_width }
 {
     if is_narrow(type_at(g, low), low_width) {
@@ -73,8 +72,7 @@ fn low_fits(g: &[u64], low: NodeId, low_width: u16) -> bool
     }
 }
 
-fn all_bits(g: &[u64], high: NodeId, low: NodeId, low_width: u16, width: u16) -> Option<Field>
-    requires { length g.now ≡ REGION }
+fn all_bits(g: &Region, high: NodeId, low: NodeId, low_width: u16, width: u16) -> Option<Field>
     ensures { maybe_field_of result ≡ field_from g.now high.0 low.0 low_width 0 width no_bits }
 {
     let mut base = None;
@@ -122,8 +120,7 @@ fn is_misplaced(bit: Option<Bit>, index: u16) -> bool
 }
 
 // Does the high part's first bit rule the fold out? It often does, so it is tested before the others.
-fn is_ruled_out(g: &[u64], high: NodeId, low: NodeId, low_width: u16, width: u16) -> bool
-    requires { length g.now ≡ REGION }
+fn is_ruled_out(g: &Region, high: NodeId, low: NodeId, low_width: u16, width: u16) -> bool
     ensures { result ≡ ruled_out g.now high.0 low.0 low_width width }
 {
     if low_width < width {
@@ -135,13 +132,12 @@ fn is_ruled_out(g: &[u64], high: NodeId, low: NodeId, low_width: u16, width: u16
 
 // The bits of a concat, if all are known or one node's own.
 pub fn fold_bitfield_concat(
-    g: &[u64],
+    g: &Region,
     high: NodeId,
     low: NodeId,
     low_width: u16,
     width: u16,
 ) -> Option<Field>
-    requires { length g.now ≡ REGION }
     ensures { maybe_field_of result ≡ fold_bitfield_concat g.now high.0 low.0 low_width width }
 {
     if low_fits(g, low, low_width) {

@@ -22,6 +22,7 @@ use plan::Rest;
 use plan::one_operand::has_modular_plan;
 use range::ScalarType;
 use word::Word;
+use graph::layout::Region;
 
 // What a call may still use.
 #[derive(Clone, Copy)]
@@ -47,8 +48,7 @@ fn spent() -> Done
 
 // The value at another type.
 #[cycle(builders)]
-pub fn identity(g: &mut [u64], budget: Budget, ty: ScalarType, value: NodeId) -> Done
-    requires { length g.old ≡ REGION }
+pub fn identity(g: &mut Region, budget: Budget, ty: ScalarType, value: NodeId) -> Done
     ensures { out (built_of result.built) result.budget.units g.new ≡ build (call.identity ty value.0) budget.units g.old }
 {
     if budget.units == 0 {
@@ -62,8 +62,7 @@ pub fn identity(g: &mut [u64], budget: Budget, ty: ScalarType, value: NodeId) ->
 }
 
 #[cycle(builders)]
-pub fn unary(g: &mut [u64], budget: Budget, ty: ScalarType, op: Unary, value: NodeId) -> Done
-    requires { length g.old ≡ REGION }
+pub fn unary(g: &mut Region, budget: Budget, ty: ScalarType, op: Unary, value: NodeId) -> Done
     ensures { out (built_of result.built) result.budget.units g.new ≡ build (call.unary ty op value.0) budget.units g.old }
 {
     if budget.units == 0 {
@@ -78,8 +77,7 @@ pub fn unary(g: &mut [u64], budget: Budget, ty: ScalarType, op: Unary, value: No
 
 // A truncation pushed through arithmetic.
 #[cycle(builders)]
-pub fn modular(g: &mut [u64], left: Budget, value: NodeId, width: u16) -> Done
-    requires { length g.old ≡ REGION }
+pub fn modular(g: &mut Region, left: Budget, value: NodeId, width: u16) -> Done
     ensures { out (built_of result.built) result.budget.units g.new ≡ build (call.modular value.0 width) left.units g.old }
 {
     if left.units == 0 {
@@ -94,14 +92,13 @@ pub fn modular(g: &mut [u64], left: Budget, value: NodeId, width: u16) -> Done
 
 #[cycle(builders)]
 pub fn binary(
-    g: &mut [u64],
+    g: &mut Region,
     budget: Budget,
     ty: ScalarType,
     op: Binary,
     left: NodeId,
     right: NodeId,
 ) -> Done
-    requires { length g.old ≡ REGION }
     ensures { out (built_of result.built) result.budget.units g.new ≡ build (call.binary ty op left.0 right.0) budget.units g.old }
 {
     if budget.units == 0 {
@@ -115,8 +112,7 @@ pub fn binary(
 }
 
 #[cycle(builders)]
-pub fn slice(g: &mut [u64], budget: Budget, value: NodeId, offset: u64, width: u16) -> Done
-    requires { length g.old ≡ REGION }
+pub fn slice(g: &mut Region, budget: Budget, value: NodeId, offset: u64, width: u16) -> Done
     ensures { out (built_of result.built) result.budget.units g.new ≡ build (call.slice value.0 offset width) budget.units g.old }
 {
     if budget.units == 0 {
@@ -131,14 +127,13 @@ pub fn slice(g: &mut [u64], budget: Budget, value: NodeId, offset: u64, width: u
 
 #[cycle(builders)]
 pub fn concat(
-    g: &mut [u64],
+    g: &mut Region,
     budget: Budget,
     high: NodeId,
     low: NodeId,
     low_width: u16,
     width: u16,
 ) -> Done
-    requires { length g.old ≡ REGION }
     ensures { out (built_of result.built) result.budget.units g.new ≡ build (call.concat high.0 low.0 low_width width) budget.units g.old }
 {
     if budget.units == 0 {
@@ -153,8 +148,7 @@ pub fn concat(
 
 // A truncation that is tried; after None the rest of the builder follows. Most often its plan is None: then modular, which would cost a unit and answer it, need not be called.
 #[cycle(builders)]
-fn try_modular(g: &mut [u64], budget: Budget, value: NodeId, width: u16, rest: Rest) -> Done
-    requires { length g.old ≡ REGION }
+fn try_modular(g: &mut Region, budget: Budget, value: NodeId, width: u16, rest: Rest) -> Done
     ensures { out (built_of result.built) result.budget.units g.new ≡ exec build (tries (attempt_prog (plan.modular value.0 width)) (rest_prog rest)) budget.units g.old }
 {
     if budget.units == 0 {
@@ -176,8 +170,7 @@ fn try_modular(g: &mut [u64], budget: Budget, value: NodeId, width: u16, rest: R
 
 // An operation on masked bits that is tried; after None the rest of the builder follows.
 #[cycle(builders)]
-fn try_masked(g: &mut [u64], budget: Budget, masked: MaskedNode, rest: Rest) -> Done
-    requires { length g.old ≡ REGION }
+fn try_masked(g: &mut Region, budget: Budget, masked: MaskedNode, rest: Rest) -> Done
     ensures { out (built_of result.built) result.budget.units g.new ≡ exec build (tries (masked_prog masked) (rest_prog rest)) budget.units g.old }
 {
     let tried = masked_operation(g, budget, masked);
@@ -190,8 +183,7 @@ fn try_masked(g: &mut [u64], budget: Budget, masked: MaskedNode, rest: Rest) -> 
 
 // The rest of a builder.
 #[cycle(builders)]
-fn go_on(g: &mut [u64], budget: Budget, rest: Rest) -> Done
-    requires { length g.old ≡ REGION }
+fn go_on(g: &mut Region, budget: Budget, rest: Rest) -> Done
     ensures { out (built_of result.built) result.budget.units g.new ≡ exec build (rest_prog rest g.old) budget.units g.old }
 {
     let next = step(g, Start::Rest(rest));
@@ -200,8 +192,7 @@ fn go_on(g: &mut [u64], budget: Budget, rest: Rest) -> Done
 
 // Does what is left of a builder's work.
 #[cycle(builders)]
-fn perform(g: &mut [u64], budget: Budget, next: Next) -> Done
-    requires { length g.old ≡ REGION }
+fn perform(g: &mut Region, budget: Budget, next: Next) -> Done
     ensures { out (built_of result.built) result.budget.units g.new ≡ exec build (next_prog next) budget.units g.old }
 {
     match next {
@@ -230,7 +221,7 @@ fn perform(g: &mut [u64], budget: Budget, next: Next) -> Done
 // A constant, then an operation on the base and it.
 #[cycle(builders)]
 pub(crate) fn constant_binary(
-    g: &mut [u64],
+    g: &mut Region,
     budget: Budget,
     kind: ScalarType,
     value: Word,
@@ -238,7 +229,6 @@ pub(crate) fn constant_binary(
     op: Binary,
     base: NodeId,
 ) -> Done
-    requires { length g.old ≡ REGION }
     ensures { out (built_of result.built) result.budget.units g.new ≡ exec build (by_constant kind (val value) ty op base.0) budget.units g.old }
 {
     let built = constant(g, kind, value);
@@ -253,14 +243,13 @@ pub(crate) fn constant_binary(
 
 #[cycle(builders)]
 fn slice_identity(
-    g: &mut [u64],
+    g: &mut Region,
     budget: Budget,
     base: NodeId,
     offset: u64,
     width: u16,
     ty: ScalarType,
 ) -> Done
-    requires { length g.old ≡ REGION }
     ensures { out (built_of result.built) result.budget.units g.new ≡ exec build (plan_prog (plan.slice_identity base.0 offset width ty)) budget.units g.old }
 {
     let part = slice(g, budget, base, offset, width);
@@ -273,14 +262,13 @@ fn slice_identity(
 
 #[cycle(builders)]
 fn slice_shift(
-    g: &mut [u64],
+    g: &mut Region,
     budget: Budget,
     base: NodeId,
     width: u16,
     ty: ScalarType,
     count: Word,
 ) -> Done
-    requires { length g.old ≡ REGION }
     ensures { out (built_of result.built) result.budget.units g.new ≡ exec build (plan_prog (plan.slice_shift base.0 width ty (val count))) budget.units g.old }
 {
     let part = slice(g, budget, base, 0, width);
@@ -294,14 +282,13 @@ fn slice_shift(
 
 #[cycle(builders)]
 fn and_or(
-    g: &mut [u64],
+    g: &mut Region,
     budget: Budget,
     ty: ScalarType,
     base: NodeId,
     mask: NodeId,
     value: Word,
 ) -> Done
-    requires { length g.old ≡ REGION }
     ensures { out (built_of result.built) result.budget.units g.new ≡ exec build (plan_prog (plan.and_or ty base.0 mask.0 (val value))) budget.units g.old }
 {
     let masked = binary(g, budget, ty, Binary::And, base, mask);
@@ -314,14 +301,13 @@ fn and_or(
 
 #[cycle(builders)]
 fn truncated(
-    g: &mut [u64],
+    g: &mut Region,
     budget: Budget,
     width: u16,
     op: Binary,
     left: NodeId,
     right: NodeId,
 ) -> Done
-    requires { length g.old ≡ REGION }
     ensures { out (built_of result.built) result.budget.units g.new ≡ exec build (plan_prog (plan.truncated width op left.0 right.0)) budget.units g.old }
 {
     let ty = ScalarType::Bits(width);
@@ -340,7 +326,7 @@ fn truncated(
 
 #[cycle(builders)]
 fn split_concat(
-    g: &mut [u64],
+    g: &mut Region,
     budget: Budget,
     low: NodeId,
     offset: u64,
@@ -349,7 +335,6 @@ fn split_concat(
     high_width: u16,
     width: u16,
 ) -> Done
-    requires { length g.old ≡ REGION }
     ensures { out (built_of result.built) result.budget.units g.new ≡ exec build (plan_prog (plan.split_concat low.0 offset low_width high.0 high_width width)) budget.units g.old }
 {
     let first = slice(g, budget, low, offset, low_width);
@@ -367,8 +352,7 @@ fn split_concat(
 
 // And of the base and the mask, then the operation on that and the literal.
 #[cycle(builders)]
-fn masked_operation(g: &mut [u64], budget: Budget, masked: MaskedNode) -> Done
-    requires { length g.old ≡ REGION }
+fn masked_operation(g: &mut Region, budget: Budget, masked: MaskedNode) -> Done
     ensures { out (built_of result.built) result.budget.units g.new ≡ exec build (masked_prog masked) budget.units g.old }
 {
     let ty = masked.ty;

@@ -12,6 +12,7 @@ use graph::{Built, NodeId};
 use range::ScalarType;
 use range::typed::mask;
 use word::Word;
+use graph::layout::Region;
 
 // At most 64 bits, and a range of them that is not empty.
 fn is_testable(width: u16, low: Word, high: Word) -> bool
@@ -30,14 +31,13 @@ fn is_testable(width: u16, low: Word, high: Word) -> bool
 
 // value - low <= high - low.
 fn difference_test(
-    g: &mut [u64],
+    g: &mut Region,
     budget: Budget,
     ty: ScalarType,
     value: NodeId,
     low: Word,
     high: Word,
 ) -> Done
-    requires { length g.old ≡ REGION }
     ensures { out (built_of result.built) result.budget.units g.new ≡ exec build (range_prog ty value.0 (val low) (val high)) budget.units g.old }
 {
     let offset = constant_binary(g, budget, ty, low, ty, Binary::Sub, value);
@@ -57,8 +57,7 @@ fn difference_test(
     )
 }
 
-pub fn unsigned_range(g: &mut [u64], budget: Budget, value: NodeId, low: Word, high: Word) -> Done
-    requires { length g.old ≡ REGION }
+pub fn unsigned_range(g: &mut Region, budget: Budget, value: NodeId, low: Word, high: Word) -> Done
     ensures { out (built_of result.built) result.budget.units g.new ≡ unsigned_range value.0 (val low) (val high) budget.units g.old }
 {
     let none = Done {

@@ -20,6 +20,7 @@ use plan_binary::binary::{binary_first, binary_plan};
 use plan_slice::slice::{concat_first, concat_plan, slice_first, slice_plan};
 use range::ScalarType;
 use word::Word;
+use graph::layout::Region;
 
 // What a builder starts from: its arguments, or where it goes on after a fold that came to None.
 #[derive(Clone, Copy)]
@@ -63,8 +64,7 @@ pub(crate) enum Next {
 }
 
 // The plan of the rest.
-fn rest_plan(g: &[u64], rest: Rest) -> Plan
-    requires { length g.now ≡ REGION }
+fn rest_plan(g: &Region, rest: Rest) -> Plan
     ensures { plan_of result ≡ rest_plan g.now (rest_of rest) }
 {
     match rest {
@@ -76,8 +76,7 @@ fn rest_plan(g: &[u64], rest: Rest) -> Plan
 }
 
 // What a builder decides; operands are resolved, but those of identity and modular.
-fn first_of(g: &[u64], start: Start) -> First
-    requires { length g.now ≡ REGION }
+fn first_of(g: &Region, start: Start) -> First
     ensures { first_of result ≡ start_first start g.now }
 {
     match start {
@@ -97,14 +96,13 @@ fn first_of(g: &[u64], start: Start) -> First
 
 // A constant is added; the operation on the base and it is left.
 fn after_constant(
-    g: &mut [u64],
+    g: &mut Region,
     kind: ScalarType,
     value: Word,
     ty: ScalarType,
     op: Binary,
     base: NodeId,
 ) -> Next
-    requires { length g.old ≡ REGION }
     ensures { Leaves result g.new (does (constant_binary kind (val value) ty op base.0)) g.old }
 {
     let built = constant(g, kind, value);
@@ -115,8 +113,7 @@ fn after_constant(
 }
 
 // What is left of a plan.
-fn begin(g: &mut [u64], plan: Plan) -> Next
-    requires { length g.old ≡ REGION }
+fn begin(g: &mut Region, plan: Plan) -> Next
     ensures { Leaves result g.new (does (plan_of plan)) g.old }
 {
     match plan {
@@ -144,8 +141,7 @@ fn begin(g: &mut [u64], plan: Plan) -> Next
 }
 
 // The mask is added as a constant; the operation is left, to be tried.
-fn begin_masked(g: &mut [u64], fold: Masked, rest: Rest) -> Next
-    requires { length g.old ≡ REGION }
+fn begin_masked(g: &mut Region, fold: Masked, rest: Rest) -> Next
     ensures { Leaves result g.new (tries (masked (mask_of fold)) (rest_of rest)) g.old }
 {
     let ty = fold.ty;
@@ -169,8 +165,7 @@ fn begin_masked(g: &mut [u64], fold: Masked, rest: Rest) -> Next
 }
 
 // What is left of a builder's work.
-pub(crate) fn step(g: &mut [u64], start: Start) -> Next
-    requires { length g.old ≡ REGION }
+pub(crate) fn step(g: &mut Region, start: Start) -> Next
     ensures { Leaves result g.new (start_first start g.old) g.old }
 {
     let first = first_of(g, start);

@@ -18,7 +18,7 @@ use evaluate::code::WIDEST_WORD;
 use evaluate::one_operand::evaluate_unary;
 use evaluate::two_operands::evaluate_binary;
 use graph::NodeId;
-use graph::layout::{FIRST, SIZE, WORDS, count};
+use graph::layout::{FIRST, Region, SIZE, WORDS, count};
 use graph::well_formed::is_graph;
 use guard::Guard;
 use native::{Answer, Numbered, reading, refused_as};
@@ -103,8 +103,8 @@ pub extern "C" fn scalars_resolve(g: &[u64], id: u64) -> u64
 }
 
 // The words of a node.
-fn words_at(g: &[u64], node: u64) -> &[u64]
-    requires { (length g.now ≡ REGION) × (node < LIMIT) }
+fn words_at(g: &Region, node: u64) -> &[u64]
+    requires { node < LIMIT }
     ensures words { result.now ≡ words_at g.now node }
     ensures len { length result.now ≡ WORDS }
 {

@@ -9,7 +9,7 @@ ghost use Rattle.fold.specs.Shape.{same_type, narrow_type, not_negative, fits, w
 
 use crate::ByConstant;
 use evaluate::Binary;
-use graph::layout::LIMIT;
+use graph::layout::{LIMIT, Region};
 use graph::read::{literal, operation_at};
 use graph::{NodeId, Operation};
 use range::{Range, ScalarType};
@@ -90,8 +90,7 @@ fn with_constant(op: Binary, base: NodeId, value: Option<Word>) -> Option<ByCons
 }
 
 // The node, if it is a binary operation whose right operand is a constant.
-pub fn by_constant_at(g: &[u64], id: NodeId) -> Option<ByConstant>
-    requires { length g.now ≡ REGION }
+pub fn by_constant_at(g: &Region, id: NodeId) -> Option<ByConstant>
     ensures { maybe_by_constant_of result ≡ by_constant_at g.now id.0 }
 {
     let operation = operation_at(g, id);
@@ -139,16 +138,14 @@ fn refined_of(operation: Operation) -> Option<NodeId>
 }
 
 // The source of the node, if it is a Refine.
-pub fn refined_at(g: &[u64], id: NodeId) -> Option<NodeId>
-    requires { length g.now ≡ REGION }
+pub fn refined_at(g: &Region, id: NodeId) -> Option<NodeId>
     ensures { id_of result ≡ refined_at g.now id.0 }
 {
     refined_of(operation_at(g, id))
 }
 
 // The node that a chain of Refines starts from.
-pub fn origin(g: &[u64], id: NodeId) -> NodeId
-    requires { length g.now ≡ REGION }
+pub fn origin(g: &Region, id: NodeId) -> NodeId
     ensures { result.0 ≡ origin g.now id.0 }
 {
     let mut at = id.0;

@@ -6,11 +6,10 @@ ghost use Rattle.graph.specs.Clear.{EmptyPast};
 
 use crate::NodeId;
 use crate::clear::clear_to;
-use crate::layout::{ALIAS, FIRST, LIMIT, WORDS, count};
+use crate::layout::{ALIAS, FIRST, LIMIT, Region, WORDS, count};
 
 // The alias of `from` is `to`. An id past the limit names no node, and nothing is written.
-pub fn set_alias(g: &mut [u64], from: NodeId, to: NodeId)
-    requires { length g.old ≡ REGION }
+pub fn set_alias(g: &mut Region, from: NodeId, to: NodeId)
     ensures { g.new ≡ aliased g.old from.0 to.0 }
 {
     let node = from.0;
@@ -23,8 +22,8 @@ pub fn set_alias(g: &mut [u64], from: NodeId, to: NodeId)
 }
 
 // The alias words of all nodes, into the first elements of `words`.
-pub fn save_aliases(g: &[u64], words: &mut [u64])
-    requires { (length g.now ≡ REGION) × (length words.old ≡ LIMIT) × (count_of g.now ≤ LIMIT) }
+pub fn save_aliases(g: &Region, words: &mut [u64])
+    requires { (length words.old ≡ LIMIT) × (count_of g.now ≤ LIMIT) }
     ensures { words.new ≡ saved g.now words.old }
 {
     let nodes = count(g);
@@ -36,8 +35,8 @@ pub fn save_aliases(g: &[u64], words: &mut [u64])
 }
 
 // The first `nodes` nodes get their alias words back.
-fn restore_aliases(g: &mut [u64], nodes: u64, words: &[u64])
-    requires { (length g.old ≡ REGION) × (length words.now ≡ LIMIT) × (nodes ≤ LIMIT) }
+fn restore_aliases(g: &mut Region, nodes: u64, words: &[u64])
+    requires { (length words.now ≡ LIMIT) × (nodes ≤ LIMIT) }
     ensures { g.new ≡ restored_up_to nodes words.now g.old }
 {
     let mut n: u64 = 0;
@@ -49,8 +48,8 @@ fn restore_aliases(g: &mut [u64], nodes: u64, words: &[u64])
 
 // Takes back what was added to the first `nodes` nodes, and the aliases that were set since they were saved. Every word past the first
 // `count` nodes is 0.
-pub fn restore_to(g: &mut [u64], nodes: u64, count: u64, words: &[u64])
-    requires { (length g.old ≡ REGION) × (length words.now ≡ LIMIT) × (nodes ≤ count) × (count ≤ LIMIT) × EmptyPast count g.old }
+pub fn restore_to(g: &mut Region, nodes: u64, count: u64, words: &[u64])
+    requires { (length words.now ≡ LIMIT) × (nodes ≤ count) × (count ≤ LIMIT) × EmptyPast count g.old }
     ensures { g.new ≡ restored nodes words.now g.old }
 {
     restore_aliases(g, nodes, words);
@@ -58,8 +57,8 @@ pub fn restore_to(g: &mut [u64], nodes: u64, count: u64, words: &[u64])
 }
 
 // The same whatever the words past the nodes are.
-pub fn restore(g: &mut [u64], nodes: u64, words: &[u64])
-    requires { (length g.old ≡ REGION) × (length words.now ≡ LIMIT) × (nodes ≤ LIMIT) }
+pub fn restore(g: &mut Region, nodes: u64, words: &[u64])
+    requires { (length words.now ≡ LIMIT) × (nodes ≤ LIMIT) }
     ensures { g.new ≡ restored nodes words.now g.old }
 {
     restore_to(g, nodes, LIMIT, words);

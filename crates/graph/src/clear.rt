@@ -3,11 +3,11 @@ ghost use Rattle.std.specs.Prelude.{◌≡◌, ◌≤◌, length};
 ghost use Rattle.graph.specs.Layout.{REGION, LIMIT};
 ghost use Rattle.graph.specs.Clear.{cleared, EmptyPast};
 
-use crate::layout::{FIRST, LIMIT, WORDS};
+use crate::layout::{FIRST, LIMIT, Region, WORDS};
 
 // Leaves the first `nodes` nodes, where every word past the first `count` is 0: `nodes` is the count, and every word past them is 0.
-pub fn clear_to(g: &mut [u64], nodes: u64, count: u64)
-    requires { (length g.old ≡ REGION) × (nodes ≤ count) × (count ≤ LIMIT) × EmptyPast count g.old }
+pub fn clear_to(g: &mut Region, nodes: u64, count: u64)
+    requires { (nodes ≤ count) × (count ≤ LIMIT) × EmptyPast count g.old }
     ensures { g.new ≡ cleared nodes g.old }
 {
     g[0] = nodes;
@@ -20,8 +20,8 @@ pub fn clear_to(g: &mut [u64], nodes: u64, count: u64)
 }
 
 // The same whatever the words past the nodes are.
-pub fn clear_from(g: &mut [u64], nodes: u64)
-    requires { (length g.old ≡ REGION) × (nodes ≤ LIMIT) }
+pub fn clear_from(g: &mut Region, nodes: u64)
+    requires { nodes ≤ LIMIT }
     ensures { g.new ≡ cleared nodes g.old }
 {
     clear_to(g, nodes, LIMIT);

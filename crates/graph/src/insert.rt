@@ -7,7 +7,7 @@ ghost use Rattle.graph.specs.Node.{op_of};
 ghost use Rattle.graph.specs.Insert.{same_words, same_key, are_apart, lowest, start, made, built_of, inserted, appended};
 
 use crate::encode::words_of;
-use crate::layout::{FIRST, KEY, LIMIT, OPERATION, SIZE, WORDS, X, Y, count};
+use crate::layout::{FIRST, KEY, LIMIT, OPERATION, Region, SIZE, WORDS, X, Y, count};
 use crate::read::resolve;
 use crate::{Built, NodeId, Operation};
 use range::{Range, ScalarType};
@@ -77,8 +77,8 @@ fn apart(g: &[u64], at: usize, first: u64) -> u64
 }
 
 // Past nodes with another first field, sixteen at a time: the search from there on has the same answer. The last sixteen may reach past the end, not past the region.
-fn pass_over(g: &[u64], from: u64, end: u64, words: &[u64; SIZE]) -> u64
-    requires { (length g.now ≡ REGION) × (end ≤ LIMIT) × (length words.now ≡ WORDS) }
+fn pass_over(g: &Region, from: u64, end: u64, words: &[u64; SIZE]) -> u64
+    requires { (end ≤ LIMIT) × (length words.now ≡ WORDS) }
     ensures { (from ≤ result) × (lowest (same_key g.now words.now) result (end - result) ≡ lowest (same_key g.now words.now) from (end - from)) }
 {
     let first = words[X];
@@ -100,8 +100,8 @@ fn pass_over(g: &[u64], from: u64, end: u64, words: &[u64; SIZE]) -> u64
 }
 
 // The lowest node from `from` on, below the count, with this key.
-fn find(g: &[u64], from: u64, words: &[u64; SIZE]) -> Option<u64>
-    requires { (length g.now ≡ REGION) × (length words.now ≡ WORDS) }
+fn find(g: &Region, from: u64, words: &[u64; SIZE]) -> Option<u64>
+    requires { length words.now ≡ WORDS }
     ensures { result ≡ lowest (same_key g.now words.now) from (min (count_of g.now) LIMIT - from) }
 {
     let nodes = count(g);
@@ -134,8 +134,8 @@ pub fn store(g: &mut [u64], at: usize, words: &[u64; SIZE])
 }
 
 // A new node, if there is room.
-fn append(g: &mut [u64], words: &[u64; SIZE]) -> Built
-    requires { (length g.old ≡ REGION) × (length words.now ≡ WORDS) }
+fn append(g: &mut Region, words: &[u64; SIZE]) -> Built
+    requires { length words.now ≡ WORDS }
     ensures { made (built_of result) g.new ≡ appended g.old words.now }
 {
     let node = count(g);
@@ -181,8 +181,7 @@ fn past(a: u64, b: u64) -> u64
 }
 
 // The resolved id of the lowest node with this type, range and operation, or of a new one.
-pub fn insert(g: &mut [u64], ty: ScalarType, range: Option<Range>, operation: Operation) -> Built
-    requires { length g.old ≡ REGION }
+pub fn insert(g: &mut Region, ty: ScalarType, range: Option<Range>, operation: Operation) -> Built
     ensures { made (built_of result) g.new ≡ inserted g.old ty (interval_of range) (op_of operation) }
 {
     let words = words_of(ty, range, operation);

@@ -41,6 +41,9 @@ pub const LIMIT: u64 = NODES as u64;
 // Words of the region.
 pub const REGION: usize = (FIRST + WORDS * LIMIT) as usize;
 
+// The words of a graph: its count, and its nodes.
+pub type Region = [u64; REGION];
+
 // The codes of the operations that are no operators.
 pub const CONSTANT: u64 = 0;
 
@@ -55,8 +58,8 @@ pub const SLICE: u64 = 4;
 pub const CONCAT: u64 = 5;
 
 // Word `index` of a node, 0 for a node past the region.
-pub fn word_at(g: &[u64], node: u64, index: usize) -> u64
-    requires { (length g.now ≡ REGION) × (index < WORDS) }
+pub fn word_at(g: &Region, node: u64, index: usize) -> u64
+    requires { index < WORDS }
     ensures { result ≡ word_at g.now node index }
 {
     if node < LIMIT {
@@ -67,8 +70,7 @@ pub fn word_at(g: &[u64], node: u64, index: usize) -> u64
 }
 
 // The number of nodes.
-pub fn count(g: &[u64]) -> u64
-    requires { length g.now ≡ REGION }
+pub fn count(g: &Region) -> u64
     ensures { result ≡ count_of g.now }
 {
     g[0]

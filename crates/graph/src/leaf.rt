@@ -11,6 +11,7 @@ use evaluate::pattern::reduced;
 use range::typed::type_range;
 use range::{Range, ScalarType};
 use word::Word;
+use crate::layout::Region;
 
 // The range of a constant: itself, but none for Bits above 2^127 - 1.
 fn constant_range(ty: ScalarType, value: Word) -> Option<Range>
@@ -30,8 +31,7 @@ fn constant_range(ty: ScalarType, value: Word) -> Option<Range>
     }
 }
 
-pub fn constant(g: &mut [u64], ty: ScalarType, value: Word) -> Built
-    requires { length g.old ≡ REGION }
+pub fn constant(g: &mut Region, ty: ScalarType, value: Word) -> Built
     ensures { made (built_of result) g.new ≡ constant g.old ty (val value) }
 {
     let low = reduced(ty, value);
@@ -39,8 +39,7 @@ pub fn constant(g: &mut [u64], ty: ScalarType, value: Word) -> Built
     insert(g, ty, range, Operation::Constant(low))
 }
 
-pub fn input(g: &mut [u64], id: InputId, ty: ScalarType, range: Option<Range>) -> Built
-    requires { length g.old ≡ REGION }
+pub fn input(g: &mut Region, id: InputId, ty: ScalarType, range: Option<Range>) -> Built
     ensures { made (built_of result) g.new ≡ input g.old id.0 ty (interval_of range) }
 {
     match range {
@@ -52,8 +51,7 @@ pub fn input(g: &mut [u64], id: InputId, ty: ScalarType, range: Option<Range>) -
     }
 }
 
-pub fn effect(g: &mut [u64], id: EffectId, ty: ScalarType) -> Built
-    requires { length g.old ≡ REGION }
+pub fn effect(g: &mut Region, id: EffectId, ty: ScalarType) -> Built
     ensures { made (built_of result) g.new ≡ effect g.old id.0 ty }
 {
     let whole = type_range(ty);

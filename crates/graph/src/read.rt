@@ -6,10 +6,7 @@ ghost use Rattle.graph.specs.Layout.{REGION};
 ghost use Rattle.graph.specs.Node.{type_of, range_of, operation_of, op_of, type_at, range_at, operation_at, node_of, node_at};
 ghost use Rattle.graph.specs.Insert.{literal, resolve};
 
-use crate::layout::{
-    ALIAS, CONCAT, CONSTANT, EFFECT, INPUT, LIMIT, MAX, MAX_HIGH, MIN, MIN_HIGH, OPERATION, RANGE,
-    REFINE, SLICE, TYPE, WIDTH, X, Y, Z, word_at,
-};
+use crate::layout::{ALIAS, CONCAT, CONSTANT, EFFECT, INPUT, LIMIT, MAX, MAX_HIGH, MIN, MIN_HIGH, OPERATION, RANGE, REFINE, Region, SLICE, TYPE, WIDTH, X, Y, Z, word_at};
 use crate::{EffectId, InputId, Node, NodeId, Operation};
 use evaluate::code::{BINARY, BITS, BOOL, binary_of, unary_of};
 use range::{Range, ScalarType};
@@ -73,16 +70,14 @@ fn operation_of(code: u64, x: u64, y: u64, z: u64) -> Operation
     }
 }
 
-pub fn type_at(g: &[u64], id: NodeId) -> ScalarType
-    requires { length g.now ≡ REGION }
+pub fn type_at(g: &Region, id: NodeId) -> ScalarType
     ensures { result ≡ type_at g.now id.0 }
 {
     let n = id.0;
     type_of(word_at(g, n, TYPE), word_at(g, n, WIDTH))
 }
 
-pub fn range_at(g: &[u64], id: NodeId) -> Option<Range>
-    requires { length g.now ≡ REGION }
+pub fn range_at(g: &Region, id: NodeId) -> Option<Range>
     ensures { interval_of result ≡ range_at g.now id.0 }
 {
     let n = id.0;
@@ -97,8 +92,7 @@ pub fn range_at(g: &[u64], id: NodeId) -> Option<Range>
     range_of(word_at(g, n, RANGE), min, max)
 }
 
-pub fn operation_at(g: &[u64], id: NodeId) -> Operation
-    requires { length g.now ≡ REGION }
+pub fn operation_at(g: &Region, id: NodeId) -> Operation
     ensures { op_of result ≡ operation_at g.now id.0 }
 {
     let n = id.0;
@@ -110,8 +104,7 @@ pub fn operation_at(g: &[u64], id: NodeId) -> Operation
     )
 }
 
-pub fn node_at(g: &[u64], id: NodeId) -> Node
-    requires { length g.now ≡ REGION }
+pub fn node_at(g: &Region, id: NodeId) -> Node
     ensures { node_of result ≡ node_at g.now id.0 }
 {
     let ty = type_at(g, id);
@@ -125,8 +118,7 @@ pub fn node_at(g: &[u64], id: NodeId) -> Node
 }
 
 // The value of a constant.
-pub fn literal(g: &[u64], id: NodeId) -> Option<Word>
-    requires { length g.now ≡ REGION }
+pub fn literal(g: &Region, id: NodeId) -> Option<Word>
     ensures { number_of result ≡ literal g.now id.0 }
 {
     let n = id.0;
@@ -141,8 +133,7 @@ pub fn literal(g: &[u64], id: NodeId) -> Option<Word>
 }
 
 // The end of the chain of aliases.
-pub fn resolve(g: &[u64], id: NodeId) -> NodeId
-    requires { length g.now ≡ REGION }
+pub fn resolve(g: &Region, id: NodeId) -> NodeId
     ensures { result.0 ≡ resolve g.now id.0 }
 {
     let mut at = id.0;

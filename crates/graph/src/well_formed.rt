@@ -4,10 +4,7 @@ ghost use Rattle.word.specs.Value.{val};
 ghost use Rattle.graph.specs.Layout.{REGION};
 ghost use Rattle.graph.specs.WellFormed.{is_type, is_range, are_fields, is_operation, is_alias, is_node, are_nodes, are_zeros, is_graph};
 
-use crate::layout::{
-    ALIAS, CONCAT, CONSTANT, EFFECT, FIRST, INPUT, LIMIT, MAX, MAX_HIGH, MIN, MIN_HIGH, OPERATION,
-    RANGE, REFINE, REGION, SLICE, TYPE, WIDTH, WORDS, X, Y, Z, word_at,
-};
+use crate::layout::{ALIAS, CONCAT, CONSTANT, EFFECT, FIRST, INPUT, LIMIT, MAX, MAX_HIGH, MIN, MIN_HIGH, OPERATION, RANGE, REFINE, REGION, Region, SLICE, TYPE, WIDTH, WORDS, X, Y, Z, count, word_at};
 use crate::read::type_of;
 use evaluate::code::{
     BITS, BOOL, INTEGER, OFFSETS, UNARY, WIDEST_WORD, WIDTHS, is_binary_code, is_unary_code,
@@ -97,8 +94,7 @@ pub fn is_alias(n: u64, nodes: u64, alias: u64) -> bool
     if n < alias - 1 { alias <= nodes } else { false }
 }
 
-fn is_node(g: &[u64], n: u64, nodes: u64) -> bool
-    requires { length g.now ≡ REGION }
+fn is_node(g: &Region, n: u64, nodes: u64) -> bool
     ensures { result ≡ is_node g.now nodes n }
 {
     let code = word_at(g, n, TYPE);
@@ -129,8 +125,7 @@ fn is_node(g: &[u64], n: u64, nodes: u64) -> bool
     )
 }
 
-fn are_nodes(g: &[u64], nodes: u64) -> bool
-    requires { length g.now ≡ REGION }
+fn are_nodes(g: &Region, nodes: u64) -> bool
     ensures { result ≡ are_nodes g.now nodes nodes }
 {
     let mut n = 0;
@@ -159,16 +154,12 @@ fn are_zeros(g: &[u64], from: usize) -> bool
 pub fn is_graph(g: &[u64]) -> bool
     ensures { result ≡ is_graph g.now }
 {
-    if g.len() != REGION {
+    let Some(region) = g.as_array::<REGION>() else {
         return false;
-    }
-    let nodes = g[0];
+    };
+    let nodes = count(region);
     if LIMIT < nodes {
         return false;
     }
-    if are_nodes(g, nodes) {
-        are_zeros(g, (FIRST + WORDS * nodes) as usize)
-    } else {
-        false
-    }
+    are_nodes(region, nodes) && are_zeros(region, (FIRST + WORDS * nodes) as usize)
 }

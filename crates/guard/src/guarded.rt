@@ -11,6 +11,7 @@ use fold::operator::same_binary;
 use fold::shape::fits;
 use graph::NodeId;
 use graph::read::range_at;
+use graph::layout::Region;
 
 // Values that are not negative have one order.
 fn unsigned_for(op: Binary) -> Binary
@@ -26,8 +27,7 @@ fn unsigned_for(op: Binary) -> Binary
 }
 
 // Do the ranges of both operands lie in 0 to 2^64 - 1?
-fn fit_host(g: &[u64], comparison: Comparison) -> bool
-    requires { length g.now ≡ REGION }
+fn fit_host(g: &Region, comparison: Comparison) -> bool
     ensures { result ≡ fit_host g.now (one_comparison_of comparison) }
 {
     if fits(range_at(g, comparison.left), 64) {
@@ -53,8 +53,7 @@ fn guard_by(comparison: Comparison, expected: bool, host: bool) -> Guard
 }
 
 // The guard of a condition, if there is a comparison behind its BoolNots.
-pub fn guarded(g: &[u64], condition: NodeId, expected: bool) -> Option<Guard>
-    requires { length g.now ≡ REGION }
+pub fn guarded(g: &Region, condition: NodeId, expected: bool) -> Option<Guard>
     ensures { guard_of result ≡ guarded g.now condition.0 expected }
 {
     let behind = behind_nots(g, condition, expected);

@@ -8,7 +8,7 @@ ghost use Rattle.guard.specs.Condition.{condition_of, negated_of, negated_at, be
 use crate::{Comparison, Condition};
 use evaluate::Unary;
 use fold::operator::is_comparison;
-use graph::layout::LIMIT;
+use graph::layout::{LIMIT, Region};
 use graph::read::operation_at;
 use graph::{NodeId, Operation};
 
@@ -42,16 +42,14 @@ fn negated_of(operation: Operation) -> Option<NodeId>
 }
 
 // The operand of the node, if it is a BoolNot.
-fn negated_at(g: &[u64], id: NodeId) -> Option<NodeId>
-    requires { length g.now ≡ REGION }
+fn negated_at(g: &Region, id: NodeId) -> Option<NodeId>
     ensures { id_of result ≡ negated_at g.now id.0 }
 {
     negated_of(operation_at(g, id))
 }
 
 // The condition with the BoolNots before it taken off; each turns what is expected.
-pub fn behind_nots(g: &[u64], id: NodeId, expected: bool) -> Condition
-    requires { length g.now ≡ REGION }
+pub fn behind_nots(g: &Region, id: NodeId, expected: bool) -> Condition
     ensures { condition_of result ≡ behind_nots g.now id.0 expected }
 {
     let mut at = id.0;
@@ -109,8 +107,7 @@ fn compared_by(operation: Operation) -> Option<Comparison>
 }
 
 // The node, if it is a comparison.
-pub fn comparison_at(g: &[u64], id: NodeId) -> Option<Comparison>
-    requires { length g.now ≡ REGION }
+pub fn comparison_at(g: &Region, id: NodeId) -> Option<Comparison>
     ensures { comparison_of result ≡ comparison_at g.now id.0 }
 {
     compared_by(operation_at(g, id))

@@ -7,11 +7,11 @@ ghost use Rattle.mark.specs.Mark.{marked, returned, standing_only};
 
 use crate::layout::{FIRST, SPAN};
 use graph::alias::{restore_to, save_aliases};
-use graph::layout::{NODES, count};
+use graph::layout::{NODES, Region, count};
 
 // Mark `mark` of the graph as it is; it is the last.
-pub(crate) fn set_mark(g: &[u64], m: &mut [u64], mark: u64)
-    requires { (length g.now ≡ REGION) × (length m.old ≡ MARKS) × (count_of g.now ≤ LIMIT) × (mark < MOST) }
+pub(crate) fn set_mark(g: &Region, m: &mut [u64], mark: u64)
+    requires { (length m.old ≡ MARKS) × (count_of g.now ≤ LIMIT) × (mark < MOST) }
     ensures { m.new ≡ marked g.now m.old mark }
 {
     let at = (FIRST + SPAN * mark) as usize;

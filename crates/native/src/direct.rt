@@ -31,10 +31,10 @@ use plan::one_operand::{has_modular_plan, unary_plan};
 use plan_binary::binary::binary_plan;
 use plan_slice::slice::slice_plan;
 use range::ScalarType;
+use graph::layout::Region;
 
 // Does unary decide by its plan alone? The operand is no constant, and no truncation is pushed through it.
-fn is_unary_open(g: &[u64], ty: ScalarType, op: Unary, value: NodeId) -> bool
-    requires { length g.now ≡ REGION }
+fn is_unary_open(g: &Region, ty: ScalarType, op: Unary, value: NodeId) -> bool
     ensures { result ≡ not (is_some (literal g.now value.0)) && not (same_type ty (type.Bits (unary_width op)) && not (is_stop (modular_plan g.now value.0 (unary_width op)))) }
 {
     if is_some(literal(g, value)) {
@@ -48,13 +48,12 @@ fn is_unary_open(g: &[u64], ty: ScalarType, op: Unary, value: NodeId) -> bool
 }
 
 pub(crate) fn unary(
-    g: &mut [u64],
+    g: &mut Region,
     ty: ScalarType,
     op: Unary,
     value: NodeId,
     full: Refusal,
 ) -> Result<Answer, Refusal>
-    requires { length g.old ≡ REGION }
     ensures { called (answer_of result) g.new ≡ builder_out full (build (call.unary ty op value.0) UNITS g.old) }
 {
     let id = resolve(g, value);
@@ -70,8 +69,7 @@ pub(crate) fn unary(
 }
 
 // Is there a masked comparison to try?
-fn is_masked(g: &[u64], op: Binary, left: NodeId, right: NodeId) -> bool
-    requires { length g.now ≡ REGION }
+fn is_masked(g: &Region, op: Binary, left: NodeId, right: NodeId) -> bool
     ensures { result ≡ is_any equalities op && is_some (fold_masked_comparison g.now op left.0 right.0) }
 {
     if !is_equality(op) {
@@ -85,8 +83,7 @@ fn is_masked(g: &[u64], op: Binary, left: NodeId, right: NodeId) -> bool
 }
 
 // Does binary decide by its plan alone? The left operand is no constant, no shift is folded, and no masked comparison is tried.
-fn is_binary_open(g: &[u64], op: Binary, left: NodeId, right: NodeId) -> bool
-    requires { length g.now ≡ REGION }
+fn is_binary_open(g: &Region, op: Binary, left: NodeId, right: NodeId) -> bool
     ensures { result ≡ not (is_some (literal g.now left.0)) && (not (is_any shifts op) && not (is_any equalities op && is_some (fold_masked_comparison g.now op left.0 right.0))) }
 {
     if is_some(literal(g, left)) {
@@ -99,14 +96,13 @@ fn is_binary_open(g: &[u64], op: Binary, left: NodeId, right: NodeId) -> bool
 }
 
 pub(crate) fn binary(
-    g: &mut [u64],
+    g: &mut Region,
     ty: ScalarType,
     op: Binary,
     left: NodeId,
     right: NodeId,
     full: Refusal,
 ) -> Result<Answer, Refusal>
-    requires { length g.old ≡ REGION }
     ensures { called (answer_of result) g.new ≡ builder_out full (build (call.binary ty op left.0 right.0) UNITS g.old) }
 {
     let a = resolve(g, left);
@@ -123,8 +119,7 @@ pub(crate) fn binary(
 }
 
 // Does slice decide by its plan alone? The operand is no constant, and no slice from 0 is a truncation pushed through it.
-fn is_slice_open(g: &[u64], value: NodeId, offset: u64, width: u16) -> bool
-    requires { length g.now ≡ REGION }
+fn is_slice_open(g: &Region, value: NodeId, offset: u64, width: u16) -> bool
     ensures { result ≡ not (is_some (literal g.now value.0)) && not (eqb offset 0 && not (is_stop (modular_plan g.now value.0 width))) }
 {
     if is_some(literal(g, value)) {
@@ -136,8 +131,7 @@ fn is_slice_open(g: &[u64], value: NodeId, offset: u64, width: u16) -> bool
     true
 }
 
-pub(crate) fn slice(g: &mut [u64], value: NodeId, offset: u64, width: u16, full: Refusal) -> Result<Answer, Refusal>
-    requires { length g.old ≡ REGION }
+pub(crate) fn slice(g: &mut Region, value: NodeId, offset: u64, width: u16, full: Refusal) -> Result<Answer, Refusal>
     ensures { called (answer_of result) g.new ≡ builder_out full (build (call.slice value.0 offset width) UNITS g.old) }
 {
     let id = resolve(g, value);

@@ -15,7 +15,7 @@ use assume::{Outcome, guard_assumed};
 use build::{Budget, range_test};
 use graph::alias::{restore, save_aliases};
 use graph::clear::clear_from;
-use graph::layout::{NODES, count};
+use graph::layout::{NODES, Region, count};
 use graph::well_formed::is_graph;
 use graph::{Built, NodeId, leaf};
 use request::Request;
@@ -104,8 +104,8 @@ fn is_refused(answer: Result<Answer, Refusal>) -> bool
 }
 
 // A refusal takes back what was added since there were `nodes` nodes.
-fn take_back(g: &mut [u64], nodes: u64, answer: Result<Answer, Refusal>)
-    requires { (length g.old ≡ REGION) × (nodes ≤ LIMIT) }
+fn take_back(g: &mut Region, nodes: u64, answer: Result<Answer, Refusal>)
+    requires { nodes ≤ LIMIT }
     ensures { g.new ≡ left nodes (answer_of answer) g.old }
 {
     if is_refused(answer) {

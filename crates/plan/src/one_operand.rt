@@ -14,7 +14,7 @@ use evaluate::one_operand::unary_value;
 use fold::new_range::unary_range;
 use fold::operator::is_modular;
 use fold::shape::{fits, is_not_negative, refined_at, same_type};
-use graph::layout::LIMIT;
+use graph::layout::{LIMIT, Region};
 use graph::read::{literal, operation_at, range_at, resolve, type_at};
 use graph::{NodeId, Operation};
 use range::{Range, ScalarType};
@@ -44,8 +44,7 @@ fn view_plan(ty: ScalarType, range: Option<Range>, value: NodeId) -> Plan
     }
 }
 
-pub fn identity_plan(g: &[u64], ty: ScalarType, value: NodeId) -> Plan
-    requires { length g.now ≡ REGION }
+pub fn identity_plan(g: &Region, ty: ScalarType, value: NodeId) -> Plan
     ensures { plan_of result ≡ identity_plan g.now ty value.0 }
 {
     if same_type(type_at(g, value), ty) {
@@ -120,8 +119,7 @@ pub fn constant_or_none(ty: ScalarType, value: Option<Word>) -> Plan
 }
 
 // unary after modular: the value itself, or a node.
-pub fn unary_plan(g: &[u64], ty: ScalarType, op: Unary, value: NodeId) -> Plan
-    requires { length g.now ≡ REGION }
+pub fn unary_plan(g: &Region, ty: ScalarType, op: Unary, value: NodeId) -> Plan
     ensures { plan_of result ≡ unary_plan g.now ty op value.0 }
 {
     let range = range_at(g, value);
@@ -131,8 +129,7 @@ pub fn unary_plan(g: &[u64], ty: ScalarType, op: Unary, value: NodeId) -> Plan
     add_or_none(ty, unary_range(ty, op, range), Operation::Unary(op, value))
 }
 
-fn unary_open(g: &[u64], ty: ScalarType, op: Unary, value: NodeId) -> First
-    requires { length g.now ≡ REGION }
+fn unary_open(g: &Region, ty: ScalarType, op: Unary, value: NodeId) -> First
     ensures { first_of result ≡ unary_open g.now ty op value.0 }
 {
     if is_reduction(ty, op) {
@@ -144,8 +141,7 @@ fn unary_open(g: &[u64], ty: ScalarType, op: Unary, value: NodeId) -> First
     First::Do(unary_plan(g, ty, op, value))
 }
 
-pub fn unary_first(g: &[u64], ty: ScalarType, op: Unary, value: NodeId) -> First
-    requires { length g.now ≡ REGION }
+pub fn unary_first(g: &Region, ty: ScalarType, op: Unary, value: NodeId) -> First
     ensures { first_of result ≡ unary_first g.now ty op value.0 }
 {
     let known = literal(g, value);
@@ -156,8 +152,7 @@ pub fn unary_first(g: &[u64], ty: ScalarType, op: Unary, value: NodeId) -> First
 }
 
 // Down a chain of Refines to the first source of the type, or to where the chain starts.
-fn view_at(g: &[u64], ty: ScalarType, id: NodeId) -> View
-    requires { length g.now ≡ REGION }
+fn view_at(g: &Region, ty: ScalarType, id: NodeId) -> View
     ensures { view_of result ≡ view_at g.now ty id.0 }
 {
     let mut at = id.0;
@@ -216,8 +211,7 @@ fn truncated_plan(width: u16, operation: Operation) -> Plan
     }
 }
 
-pub fn modular_plan(g: &[u64], value: NodeId, width: u16) -> Plan
-    requires { length g.now ≡ REGION }
+pub fn modular_plan(g: &Region, value: NodeId, width: u16) -> Plan
     ensures { plan_of result ≡ modular_plan g.now value.0 width }
 {
     let view = view_at(g, ScalarType::Bits(width), value);
@@ -234,8 +228,7 @@ pub fn modular_plan(g: &[u64], value: NodeId, width: u16) -> Plan
 }
 
 // Does modular come to more than None?
-pub fn has_modular_plan(g: &[u64], value: NodeId, width: u16) -> bool
-    requires { length g.now ≡ REGION }
+pub fn has_modular_plan(g: &Region, value: NodeId, width: u16) -> bool
     ensures { result ≡ not (is_stop (modular_plan g.now value.0 width)) }
 {
     let plan = modular_plan(g, value, width);

@@ -28,6 +28,7 @@ use plan::one_operand::constant_or_none;
 use plan::{Attempt, First, Plan, Rest};
 use range::{Range, ScalarType};
 use word::Word;
+use graph::layout::Region;
 
 // Does a constant on the left go to the right?
 fn is_swapped(op: Binary, left: Option<Word>, right: Option<Word>) -> bool
@@ -105,8 +106,7 @@ fn with_itself_plan(ty: ScalarType, op: Binary, left: NodeId, right: NodeId) -> 
 }
 
 // The decisions before the range of the node is known.
-fn decided_plan(g: &[u64], ty: ScalarType, op: Binary, left: NodeId, right: NodeId) -> Option<Plan>
-    requires { length g.now ≡ REGION }
+fn decided_plan(g: &Region, ty: ScalarType, op: Binary, left: NodeId, right: NodeId) -> Option<Plan>
     ensures { decided_of result ≡ decided_plan g.now ty op left.0 right.0 }
 {
     let known = literal(g, right);
@@ -146,8 +146,7 @@ fn store_plan(
 }
 
 // binary after the masked comparison.
-pub fn binary_plan(g: &[u64], ty: ScalarType, op: Binary, left: NodeId, right: NodeId) -> Plan
-    requires { length g.now ≡ REGION }
+pub fn binary_plan(g: &Region, ty: ScalarType, op: Binary, left: NodeId, right: NodeId) -> Plan
     ensures { plan_of result ≡ binary_plan g.now ty op left.0 right.0 }
 {
     let decided = decided_plan(g, ty, op, left, right);
@@ -160,8 +159,7 @@ pub fn binary_plan(g: &[u64], ty: ScalarType, op: Binary, left: NodeId, right: N
 }
 
 // Equal and NotEqual try the masked comparison first.
-fn equality_first(g: &[u64], ty: ScalarType, op: Binary, left: NodeId, right: NodeId) -> First
-    requires { length g.now ≡ REGION }
+fn equality_first(g: &Region, ty: ScalarType, op: Binary, left: NodeId, right: NodeId) -> First
     ensures { first_of result ≡ equality_first g.now ty op left.0 right.0 }
 {
     if !is_equality(op) {
@@ -177,8 +175,7 @@ fn equality_first(g: &[u64], ty: ScalarType, op: Binary, left: NodeId, right: No
     }
 }
 
-fn open_first(g: &[u64], ty: ScalarType, op: Binary, left: NodeId, right: NodeId) -> First
-    requires { length g.now ≡ REGION }
+fn open_first(g: &Region, ty: ScalarType, op: Binary, left: NodeId, right: NodeId) -> First
     ensures { first_of result ≡ open_first g.now ty op left.0 right.0 }
 {
     let known = literal(g, right);
@@ -193,8 +190,7 @@ fn open_first(g: &[u64], ty: ScalarType, op: Binary, left: NodeId, right: NodeId
     equality_first(g, ty, op, left, right)
 }
 
-pub fn binary_first(g: &[u64], ty: ScalarType, op: Binary, left: NodeId, right: NodeId) -> First
-    requires { length g.now ≡ REGION }
+pub fn binary_first(g: &Region, ty: ScalarType, op: Binary, left: NodeId, right: NodeId) -> First
     ensures { first_of result ≡ binary_first g.now ty op left.0 right.0 }
 {
     if is_swapped(op, literal(g, left), literal(g, right)) {

@@ -20,6 +20,7 @@ use plan::Plan;
 use range::ScalarType;
 use range::typed::mask;
 use word::Word;
+use graph::layout::Region;
 
 // The first of two decisions.
 pub(crate) fn or_plan(first: Option<Plan>, second: Option<Plan>) -> Option<Plan>
@@ -129,14 +130,13 @@ fn mask_of_mask(
 }
 
 fn bits_masks(
-    g: &[u64],
+    g: &Region,
     width: u16,
     op: Binary,
     left: NodeId,
     right: NodeId,
     value: Word,
 ) -> Option<Plan>
-    requires { length g.now ≡ REGION }
     ensures { decided_of result ≡ mask_plan g.now (type.Bits width) op left.0 right.0 (val value) }
 {
     let inner = by_constant_at(g, left);
@@ -153,14 +153,13 @@ fn bits_masks(
 }
 
 fn mask_plan(
-    g: &[u64],
+    g: &Region,
     ty: ScalarType,
     op: Binary,
     left: NodeId,
     right: NodeId,
     value: Word,
 ) -> Option<Plan>
-    requires { length g.now ≡ REGION }
     ensures { decided_of result ≡ mask_plan g.now ty op left.0 right.0 (val value) }
 {
     match ty {
@@ -172,14 +171,13 @@ fn mask_plan(
 
 // What a constant on the right decides before the range is known.
 pub(crate) fn literal_plan(
-    g: &[u64],
+    g: &Region,
     ty: ScalarType,
     op: Binary,
     left: NodeId,
     right: NodeId,
     known: Option<Word>,
 ) -> Option<Plan>
-    requires { length g.now ≡ REGION }
     ensures { decided_of result ≡ literal_plan g.now ty op left.0 right.0 (number_of known) }
 {
     let Some(value) = known else {
@@ -231,8 +229,7 @@ fn sum_of_sum(ty: ScalarType, op: Binary, value: Word, shape: ByConstant) -> Opt
     None
 }
 
-fn sum_of_constant(g: &[u64], ty: ScalarType, op: Binary, left: NodeId, value: Word) -> Option<Plan>
-    requires { length g.now ≡ REGION }
+fn sum_of_constant(g: &Region, ty: ScalarType, op: Binary, left: NodeId, value: Word) -> Option<Plan>
     ensures { decided_of result ≡ sum_plan g.now ty op left.0 (val value) }
 {
     let remainder = remainder_plan(ty, op, left, value);
@@ -248,13 +245,12 @@ fn sum_of_constant(g: &[u64], ty: ScalarType, op: Binary, left: NodeId, value: W
 
 // A remainder or a sum by a constant.
 pub(crate) fn sum_plan(
-    g: &[u64],
+    g: &Region,
     ty: ScalarType,
     op: Binary,
     left: NodeId,
     known: Option<Word>,
 ) -> Option<Plan>
-    requires { length g.now ≡ REGION }
     ensures { decided_of result ≡ given (number_of known) (sum_plan g.now ty op left.0) None }
 {
     match known {
@@ -296,14 +292,13 @@ fn offset_compared(
 }
 
 fn offset_bits(
-    g: &[u64],
+    g: &Region,
     ty: ScalarType,
     op: Binary,
     left: NodeId,
     target: Word,
     width: u16,
 ) -> Option<Plan>
-    requires { length g.now ≡ REGION }
     ensures { decided_of result ≡ offset_typed g.now ty op left.0 (val target) (type.Bits width) }
 {
     if !target.le(mask(width)) {
@@ -316,8 +311,7 @@ fn offset_bits(
     }
 }
 
-fn offset_typed(g: &[u64], ty: ScalarType, op: Binary, left: NodeId, target: Word) -> Option<Plan>
-    requires { length g.now ≡ REGION }
+fn offset_typed(g: &Region, ty: ScalarType, op: Binary, left: NodeId, target: Word) -> Option<Plan>
     ensures { decided_of result ≡ offset_typed g.now ty op left.0 (val target) (type_at g.now left.0) }
 {
     let kind = type_at(g, left);
@@ -330,13 +324,12 @@ fn offset_typed(g: &[u64], ty: ScalarType, op: Binary, left: NodeId, target: Wor
 
 // A comparison of a sum with a constant is one of its base.
 pub(crate) fn offset_plan(
-    g: &[u64],
+    g: &Region,
     ty: ScalarType,
     op: Binary,
     left: NodeId,
     known: Option<Word>,
 ) -> Option<Plan>
-    requires { length g.now ≡ REGION }
     ensures { decided_of result ≡ offset_plan g.now ty op left.0 (number_of known) }
 {
     if !is_equality(op) {

@@ -16,6 +16,7 @@ use graph::read::{range_at, type_at};
 use plan::Plan;
 use range::ScalarType;
 use word::Word;
+use graph::layout::Region;
 
 // A width as a word.
 fn word_of(width: u16) -> Word
@@ -83,8 +84,7 @@ fn shift_of_shift(op: Binary, width: u16, count: Word, shape: ByConstant) -> Opt
     Some(Plan::ConstantBinary(sum, base, ScalarType::Integer, ty, op))
 }
 
-fn shift_by(g: &[u64], op: Binary, width: u16, left: NodeId, count: Word) -> Option<Plan>
-    requires { length g.now ≡ REGION }
+fn shift_by(g: &Region, op: Binary, width: u16, left: NodeId, count: Word) -> Option<Plan>
     ensures { decided_of result ≡ shift_by g.now op width left.0 (val count) }
 {
     let ty = ScalarType::Bits(width);
@@ -103,8 +103,7 @@ fn shift_by(g: &[u64], op: Binary, width: u16, left: NodeId, count: Word) -> Opt
     }
 }
 
-fn bits_shift(g: &[u64], width: u16, op: Binary, left: NodeId, right: Option<Word>) -> Option<Plan>
-    requires { length g.now ≡ REGION }
+fn bits_shift(g: &Region, width: u16, op: Binary, left: NodeId, right: Option<Word>) -> Option<Plan>
     ensures { decided_of result ≡ shift_plan g.now (ty.Bits width) op left.0 (number_of right) }
 {
     if !is_folded_shift(op) {
@@ -118,13 +117,12 @@ fn bits_shift(g: &[u64], width: u16, op: Binary, left: NodeId, right: Option<Wor
 
 // What a shift in Bits by a constant comes to.
 pub(crate) fn shift_plan(
-    g: &[u64],
+    g: &Region,
     ty: ScalarType,
     op: Binary,
     left: NodeId,
     right: Option<Word>,
 ) -> Option<Plan>
-    requires { length g.now ≡ REGION }
     ensures { decided_of result ≡ shift_plan g.now ty op left.0 (number_of right) }
 {
     match ty {

@@ -20,6 +20,7 @@ use plan::{Attempt, First, Plan, Rest};
 use range::typed::type_range;
 use range::{Range, ScalarType};
 use word::Word;
+use graph::layout::Region;
 
 // The value from the offset up, 0 from offset 128 on.
 fn lowered(value: Word, offset: u64) -> Word
@@ -111,8 +112,7 @@ fn slice_operation(operation: Operation, value: NodeId, offset: u64, width: u16)
 }
 
 // A slice that its range does not decide.
-fn slice_part(g: &[u64], value: NodeId, offset: u64, width: u16) -> Plan
-    requires { length g.now ≡ REGION }
+fn slice_part(g: &Region, value: NodeId, offset: u64, width: u16) -> Plan
     ensures { plan_of result ≡ slice_part g.now value.0 offset width }
 {
     let ty = type_at(g, value);
@@ -126,8 +126,7 @@ fn slice_part(g: &[u64], value: NodeId, offset: u64, width: u16) -> Plan
 }
 
 // slice after modular.
-pub fn slice_plan(g: &[u64], value: NodeId, offset: u64, width: u16) -> Plan
-    requires { length g.now ≡ REGION }
+pub fn slice_plan(g: &Region, value: NodeId, offset: u64, width: u16) -> Plan
     ensures { plan_of result ≡ slice_plan g.now value.0 offset width }
 {
     let bounded = bounded_plan(range_at(g, value), value, offset, width);
@@ -137,8 +136,7 @@ pub fn slice_plan(g: &[u64], value: NodeId, offset: u64, width: u16) -> Plan
     }
 }
 
-fn slice_open(g: &[u64], value: NodeId, offset: u64, width: u16) -> First
-    requires { length g.now ≡ REGION }
+fn slice_open(g: &Region, value: NodeId, offset: u64, width: u16) -> First
     ensures { first_of result ≡ slice_open g.now value.0 offset width }
 {
     if offset == 0 {
@@ -150,8 +148,7 @@ fn slice_open(g: &[u64], value: NodeId, offset: u64, width: u16) -> First
     First::Do(slice_plan(g, value, offset, width))
 }
 
-pub fn slice_first(g: &[u64], value: NodeId, offset: u64, width: u16) -> First
-    requires { length g.now ≡ REGION }
+pub fn slice_first(g: &Region, value: NodeId, offset: u64, width: u16) -> First
     ensures { first_of result ≡ slice_first g.now value.0 offset width }
 {
     let known = literal(g, value);
@@ -251,14 +248,13 @@ fn adjacent(high: Operation, low: Operation, low_width: u16, width: u16) -> Opti
 
 // A concat of one node's own bits and of constants: And keeps those, Or sets the others.
 fn field_plan(
-    g: &[u64],
+    g: &Region,
     high: NodeId,
     low: NodeId,
     low_width: u16,
     width: u16,
     field: Field,
 ) -> First
-    requires { length g.now ≡ REGION }
     ensures { first_of result ≡ field_plan g.now high.0 low.0 low_width width (field_of field) }
 {
     let ty = ScalarType::Bits(width);
@@ -285,8 +281,7 @@ fn field_plan(
     )
 }
 
-fn concat_field(g: &[u64], high: NodeId, low: NodeId, low_width: u16, width: u16) -> First
-    requires { length g.now ≡ REGION }
+fn concat_field(g: &Region, high: NodeId, low: NodeId, low_width: u16, width: u16) -> First
     ensures { first_of result ≡ concat_field g.now high.0 low.0 low_width width }
 {
     let bits = fold_bitfield_concat(g, high, low, low_width, width);
@@ -296,8 +291,7 @@ fn concat_field(g: &[u64], high: NodeId, low: NodeId, low_width: u16, width: u16
     }
 }
 
-fn concat_open(g: &[u64], high: NodeId, low: NodeId, low_width: u16, width: u16) -> First
-    requires { length g.now ≡ REGION }
+fn concat_open(g: &Region, high: NodeId, low: NodeId, low_width: u16, width: u16) -> First
     ensures { first_of result ≡ concat_open g.now high.0 low.0 low_width width }
 {
     let first = operation_at(g, high);
@@ -309,8 +303,7 @@ fn concat_open(g: &[u64], high: NodeId, low: NodeId, low_width: u16, width: u16)
     }
 }
 
-pub fn concat_first(g: &[u64], high: NodeId, low: NodeId, low_width: u16, width: u16) -> First
-    requires { length g.now ≡ REGION }
+pub fn concat_first(g: &Region, high: NodeId, low: NodeId, low_width: u16, width: u16) -> First
     ensures { first_of result ≡ concat_first g.now high.0 low.0 low_width width }
 {
     if width == low_width {

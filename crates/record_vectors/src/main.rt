@@ -5,7 +5,7 @@
 ghost use Rattle.std.specs.Prelude.{◌≡◌, ◌≤◌, ◌<◌, length};
 ghost use Rattle.graph.specs.Layout.{REGION};
 
-use graph::layout::{NODES, REGION, count};
+use graph::layout::{NODES, REGION, Region, count};
 use record::line::put_nodes;
 use record::perform::{Step, first_length, perform};
 use std::io::{Read, Stdin, Stdout, Write};
@@ -74,8 +74,7 @@ fn put_lines(g: &mut [u64], mapping: &mut [u64], stream: &[u8], out: &mut [u8]) 
 }
 
 // The last line of a stream, the number of nodes, and how many bytes it has.
-fn put_count(g: &[u64], line: &mut [u8]) -> usize
-    requires { length g.now ≡ REGION }
+fn put_count(g: &Region, line: &mut [u8]) -> usize
     ensures { result ≤ length line.old }
 {
     put_nodes(count(g), line)

@@ -15,6 +15,7 @@ use graph::NodeId;
 use graph::read::type_at;
 use range::{Range, ScalarType};
 use word::Word;
+use graph::layout::Region;
 
 fn is_width(width: u16) -> bool
     ensures { result ≡ all_up_to WIDEST (width ∷ []) }
@@ -87,8 +88,7 @@ pub fn are_ids(nodes: u64, request: Request) -> bool
 }
 
 // Question 4: does the typing table hold?
-pub fn is_typed(g: &[u64], request: Request) -> bool
-    requires { length g.now ≡ REGION }
+pub fn is_typed(g: &Region, request: Request) -> bool
     ensures { result ≡ typed g.now (request_of request) }
 {
     match request {

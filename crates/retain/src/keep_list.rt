@@ -4,7 +4,7 @@ ghost use Rattle.graph.specs.Layout.{REGION};
 ghost use Rattle.retain.specs.Retain.{is_kept, has_first, has_second, operands_at, are_kept, is_allowed, are_allowed, is_keep_list};
 
 use evaluate::code::BINARY;
-use graph::layout::{CONCAT, OPERATION, REFINE, SLICE, X, Y, count, word_at};
+use graph::layout::{CONCAT, OPERATION, REFINE, Region, SLICE, X, Y, count, word_at};
 
 // Does field X of an operation hold an operand?
 pub fn has_first(code: u64) -> bool
@@ -30,8 +30,7 @@ fn is_kept(keep: &[u8], id: u64) -> bool
     }
 }
 
-fn are_operands_kept(g: &[u64], keep: &[u8], node: u64) -> bool
-    requires { length g.now ≡ REGION }
+fn are_operands_kept(g: &Region, keep: &[u8], node: u64) -> bool
     ensures { result ≡ are_kept keep.now (operands_at g.now node) }
 {
     let code = word_at(g, node, OPERATION);
@@ -48,8 +47,8 @@ fn are_operands_kept(g: &[u64], keep: &[u8], node: u64) -> bool
     }
 }
 
-fn is_allowed(g: &[u64], keep: &[u8], node: u64) -> bool
-    requires { (length g.now ≡ REGION) × (node < length keep.now) }
+fn is_allowed(g: &Region, keep: &[u8], node: u64) -> bool
+    requires { node < length keep.now }
     ensures { result ≡ is_allowed g.now keep.now node }
 {
     let element = keep[node as usize];
@@ -63,8 +62,7 @@ fn is_allowed(g: &[u64], keep: &[u8], node: u64) -> bool
     }
 }
 
-fn are_allowed(g: &[u64], keep: &[u8]) -> bool
-    requires { length g.now ≡ REGION }
+fn are_allowed(g: &Region, keep: &[u8]) -> bool
     ensures { result ≡ are_allowed g.now keep.now (length keep.now) }
 {
     let mut node = 0;
@@ -77,8 +75,7 @@ fn are_allowed(g: &[u64], keep: &[u8]) -> bool
     true
 }
 
-pub fn is_keep_list(g: &[u64], keep: &[u8], mapping: &[u64]) -> bool
-    requires { length g.now ≡ REGION }
+pub fn is_keep_list(g: &Region, keep: &[u8], mapping: &[u64]) -> bool
     ensures { result ≡ is_keep_list g.now keep.now mapping.now }
 {
     let nodes = count(g);

@@ -10,7 +10,7 @@ ghost use Rattle.retain.specs.Retain.{DROPPED, is_kept, is_keep_list, kept_below
 
 use graph::clear::clear_to;
 use graph::insert::store;
-use graph::layout::{FIRST, OPERATION, SIZE, WORDS, X, Y, Z, count, word_at};
+use graph::layout::{FIRST, OPERATION, Region, SIZE, WORDS, X, Y, Z, count, word_at};
 use keep_list::{has_first, has_second};
 
 // What a dropped node maps to.
@@ -49,8 +49,8 @@ fn moved_words(g: &[u64], mapping: &[u64], node: u64) -> [u64; SIZE]
     words
 }
 
-fn move_node(g: &mut [u64], mapping: &[u64], node: u64, to: u64)
-    requires { (length g.old ≡ REGION) × (to < LIMIT) }
+fn move_node(g: &mut Region, mapping: &[u64], node: u64, to: u64)
+    requires { to < LIMIT }
     ensures { g.new ≡ moved mapping.now g.old node to }
 {
     let words = moved_words(g, mapping, node);
@@ -58,8 +58,8 @@ fn move_node(g: &mut [u64], mapping: &[u64], node: u64, to: u64)
 }
 
 // One node: kept, it moves to place `next`. The next free place.
-fn place(g: &mut [u64], keep: &[u8], mapping: &mut [u64], node: u64, next: u64) -> u64
-    requires { (length g.old ≡ REGION) × (next < LIMIT) × (node < length keep.now) × (node < length mapping.old) }
+fn place(g: &mut Region, keep: &[u8], mapping: &mut [u64], node: u64, next: u64) -> u64
+    requires { (next < LIMIT) × (node < length keep.now) × (node < length mapping.old) }
     ensures { (result ≡ cond (is_kept keep.now node) (suc next) next) × (g.new ≡ cond (is_kept keep.now node) (moved mapping.old g.old node next) g.old) × (mapping.new ≡ set mapping.old node (cond (is_kept keep.now node) next DROPPED)) }
 {
     if keep[node as usize] == 1 {

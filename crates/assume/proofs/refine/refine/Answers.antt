@@ -9,12 +9,6 @@ pub loop-left-init : goal.loop-left-init
 unfolding refined
 loop-left-init c = (refl, refl)
 
-pub resolve-target-requires : goal.resolve-target-requires
-resolve-target-requires c = omega (arith, c.loop-left.invariant.1)
-
-pub refine_step-step-requires : goal.refine_step-step-requires
-refine_step-step-requires c = omega (arith, c.loop-left.invariant.1)
-
 pub shape_of-g-in-Unchanged : goal.shape_of-g-in-Unchanged
 shape_of-g-in-Unchanged c = c.refine_step-step.auto.g ∙ c.loop-left.invariant.1
 

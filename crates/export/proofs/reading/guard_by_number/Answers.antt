@@ -3,9 +3,6 @@ use Rattle.graph.proofs.Grown.{graph_facts}
 use borrow.Author.Tests.{lt-ltb, le-ltb}
 use Rattle.export.proofs.reading.guard_by_number.Goals as goal
 
-pub count-requires : goal.count-requires
-count-requires c = (graph_facts _ c.requires).length
-
 pub returns-then-count-condition : goal.returns-then-count-condition
 unfolding guard_by_number
 returns-then-count-condition c = rw (← c.count.ensures, le-ltb _ _ c.if-count-condition.true)

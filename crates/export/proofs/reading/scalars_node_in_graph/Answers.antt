@@ -6,15 +6,9 @@ use mathlib.Core.Path.{◌∙◌}
 use native.Mathlib.Nat.{lt_of_lt_of_le}
 use Rattle.export.proofs.reading.scalars_node_in_graph.Goals as goal
 
-pub count-requires : goal.count-requires
-count-requires c = (graph_facts _ c.requires).length
-
 pub returns-then-count-id : goal.returns-then-count-id
 unfolding node_in_graph
 returns-then-count-id c = rw (← c.count.ensures, le-ltb _ _ c.if-count-id.true) (λ i. exported (c.refused_as.ensures i) c.args.out.now)
-
-pub words_at-requires : goal.words_at-requires
-words_at-requires c = ((graph_facts _ c.requires).length, lt_of_lt_of_le (rw c.count.ensures at c.if-count-id.false) (graph_facts _ c.requires).count)
 
 pub returns : goal.returns
 unfolding node_in_graph

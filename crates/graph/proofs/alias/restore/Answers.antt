@@ -3,6 +3,3 @@ use native.Mathlib.Nat.{le_refl}
 use Rattle.graph.specs.Layout.{LIMIT}
 use Rattle.graph.proofs.Wiping.{none_past}
 use Rattle.graph.proofs.alias.restore.Goals as goal
-
-pub restore_to-requires : goal.restore_to-requires
-restore_to-requires c = let p = c.requires in (p.0, p.1, p.2, le_refl LIMIT, none_past c.args.g.now p.0)

@@ -41,8 +41,5 @@ loop-n-preserved c = (
   omega arith,
 )
 
-pub shape_of-g : goal.shape_of-g
-shape_of-g c = c.loop-n.invariant.1
-
 pub returns : goal.returns
 returns c = restored_all c.loop-n.n c.args.nodes _ _ _ (omega arith) c.loop-n.invariant.0

@@ -1,5 +1,4 @@
 -- `restore_to` meets its contract: nothing is written past the nodes, so that the words there are 0 still. Assumes nothing.
-use mathlib.Core.Path.{◌∙◌}
 use Rattle.graph.specs.Alias.{restored}
 use Rattle.graph.proofs.Restored.{restored_past}
 use Rattle.graph.proofs.alias.restore_to.Goals as goal
@@ -7,7 +6,7 @@ use Rattle.graph.proofs.alias.restore_to.Goals as goal
 pub clear_to-requires : goal.clear_to-requires
 clear_to-requires c =
     let r = c.restore_aliases in
-    (r.auto.g ∙ c.requires.0, c.requires.2, c.requires.3, rw r.ensures (restored_past _ _ _ _ c.requires.2 c.requires.4))
+    (c.requires.1, c.requires.2, rw r.ensures (restored_past _ _ _ _ c.requires.1 c.requires.3))
 
 pub returns : goal.returns
 unfolding restored

@@ -38,8 +38,5 @@ loop-at-smaller c = omega arith
 pub loop-at-preserved : goal.loop-at-preserved
 loop-at-preserved c = (wiping_more _ _ _ _ c.loop-at.invariant.0 (simp length-set (omega arith)), omega arith)
 
-pub shape_of-g : goal.shape_of-g
-shape_of-g c = c.loop-at.invariant.0.size ∙ simp length-set
-
 pub returns : goal.returns
-returns c = wiped _ _ _ _ (omega arith) c.loop-at.invariant.0 (λ j p. c.requires.3 j (omega (arith, c.loop-at-test.false)))
+returns c = wiped _ _ _ _ (omega arith) c.loop-at.invariant.0 (λ j p. c.requires.2 j (omega (arith, c.loop-at-test.false)))

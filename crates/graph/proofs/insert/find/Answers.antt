@@ -12,11 +12,6 @@ use Rattle.graph.proofs.Search.{lowest_at, lowest_on, lowest_end}
 use Rattle.graph.proofs.insert.find.Goals as goal
 use Rattle.graph.proofs.insert.find.Goals.{then-nodes-lt-LIMIT, else-nodes-lt-LIMIT}
 
-pub pass_over-node-requires : goal.pass_over-node-requires
-pass_over-node-requires c =
-    let m : c.if-nodes-lt-LIMIT.end ≤ LIMIT = elim c.if-nodes-lt-LIMIT.branch [ then-nodes-lt-LIMIT w ↦ omega arith | else-nodes-lt-LIMIT w ↦ omega arith ] in
-    search (rules, m)
-
 pub loop-node-init : goal.loop-node-init
 loop-node-init c =
     let n = count_of c.args.g.now in
@@ -56,7 +51,7 @@ pub loop-node-preserved : goal.loop-node-preserved
 loop-node-preserved c =
     let a = c.args in
     let l = c.loop-node in
-    let k : KEY ≤ length a.words.now = omega (arith, c.requires.1) in (
+    let k : KEY ≤ length a.words.now = omega (arith, c.requires) in (
       l.invariant.0,
       l.invariant.1,
       l.invariant.2

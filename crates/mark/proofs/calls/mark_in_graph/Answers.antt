@@ -7,9 +7,6 @@ use Rattle.mark.proofs.calls.mark_in_graph.Goals as goal
 pub standing-mark-requires : goal.standing-mark-requires
 standing-mark-requires c = (regions_facts _ _ c.requires).1.length
 
-pub set_mark-requires : goal.set_mark-requires
-set_mark-requires c = let f = regions_facts _ _ c.requires in (f.0.length, f.1.length, f.0.count, c.if-mark-lt-MOST.true)
-
 pub returns-then-mark-lt-MOST : goal.returns-then-mark-lt-MOST
 unfolding mark_in_graph
 returns-then-mark-lt-MOST c = rw (← c.standing-mark.ensures, lt-ltb _ _ c.if-mark-lt-MOST.true) (ap (marking (number c.standing-mark.result)) c.set_mark.ensures)

@@ -4,9 +4,6 @@ use Rattle.graph.proofs.Grown.{graph_facts}
 use Rattle.mark.specs.WellFormed.{is_marked}
 use Rattle.mark.proofs.well_formed.is_marked.Goals as goal
 
-pub count-requires : goal.count-requires
-count-requires c = (graph_facts c.args.g.now (sym c.is_graph.ensures ∙ c.if-is_graph.true)).length
-
 pub are_marks-requires : goal.are_marks-requires
 are_marks-requires c = omega (arith, c.count.ensures, (graph_facts c.args.g.now (sym c.is_graph.ensures ∙ c.if-is_graph.true)).count)
 

@@ -9,25 +9,10 @@ use Rattle.graph.proofs.Grown.{graph_facts}
 use mathlib.Core.Path.{sym, ap, ◌∙◌}
 use Rattle.native.proofs.perform.assume_or_restore.Goals as goal
 
-pub is_narrowing-requires : goal.is_narrowing-requires
-is_narrowing-requires c = (graph_facts _ c.requires).length
-
 pub returns-then-not-is_narrowing : goal.returns-then-not-is_narrowing
 returns-then-not-is_narrowing c = let a = c.args in
     let n = c.is_narrowing in
     rw (guard_idle a.g.now a.condition.0 a.expected (sym n.ensures ∙ c.if-not-is_narrowing.true))
-
-pub count-nodes-requires : goal.count-nodes-requires
-count-nodes-requires c = (graph_facts _ c.requires).length
-
-pub save_aliases-requires : goal.save_aliases-requires
-save_aliases-requires c = ((graph_facts _ c.requires).length, length-replicate {A = ℕ} LIMIT 0, (graph_facts _ c.requires).count)
-
-pub assume_guard-outcome-requires : goal.assume_guard-outcome-requires
-assume_guard-outcome-requires c = (graph_facts _ c.requires).length
-
-pub restore-requires : goal.restore-requires
-restore-requires c = (c.assume_guard-outcome.auto.g ∙ (graph_facts _ c.requires).length, c.save_aliases.auto.words, rw c.count-nodes.ensures (graph_facts _ c.requires).count)
 
 pub returns-in-Unchanged : goal.returns-in-Unchanged
 returns-in-Unchanged c = rw (← c.assume_guard-outcome.ensures, c.in-Unchanged.is)

@@ -5,9 +5,6 @@ use Rattle.native.specs.Perform.{performed}
 use mathlib.Core.Path.{sym, ◌∙◌}
 use Rattle.native.proofs.perform.perform.Goals as goal
 
-pub count-nodes-requires : goal.count-nodes-requires
-count-nodes-requires c = (graph_facts _ c.requires).length
-
 pub returns-then-not-are_widths : goal.returns-then-not-are_widths
 unfolding performed
 returns-then-not-are_widths c = rw (sym c.are_widths.ensures ∙ c.if-not-are_widths.true)
@@ -16,9 +13,6 @@ pub returns-then-not-are_ids : goal.returns-then-not-are_ids
 unfolding performed
 returns-then-not-are_ids c = rw (sym c.are_widths.ensures ∙ c.if-not-are_widths.false, sym (rw c.count-nodes.ensures at c.are_ids.ensures) ∙ c.if-not-are_ids.true)
 
-pub is_typed-requires : goal.is_typed-requires
-is_typed-requires c = (graph_facts _ c.requires).length
-
 pub returns-then-not-is_typed : goal.returns-then-not-is_typed
 unfolding performed
 returns-then-not-is_typed c = rw (sym c.are_widths.ensures ∙ c.if-not-are_widths.false, sym (rw c.count-nodes.ensures at c.are_ids.ensures) ∙ c.if-not-are_ids.false, sym c.is_typed.ensures ∙ c.if-not-is_typed.true)
@@ -26,9 +20,6 @@ returns-then-not-is_typed c = rw (sym c.are_widths.ensures ∙ c.if-not-are_widt
 pub returns-then-not-is_declarable : goal.returns-then-not-is_declarable
 unfolding performed
 returns-then-not-is_declarable c = rw (sym c.are_widths.ensures ∙ c.if-not-are_widths.false, sym (rw c.count-nodes.ensures at c.are_ids.ensures) ∙ c.if-not-are_ids.false, sym c.is_typed.ensures ∙ c.if-not-is_typed.false, sym c.is_declarable.ensures ∙ c.if-not-is_declarable.true)
-
-pub take_back-requires : goal.take_back-requires
-take_back-requires c = (c.work-answer.auto.g ∙ (graph_facts _ c.requires).length, rw c.count-nodes.ensures (graph_facts _ c.requires).count)
 
 pub returns : goal.returns
 unfolding performed

@@ -3,30 +3,6 @@ use Rattle.native.specs.Perform.{worked, leaf_out, builder_out}
 use mathlib.Core.Path.{ap}
 use Rattle.native.proofs.perform.work.Goals as goal
 
-pub constant-requires : goal.constant-requires
-constant-requires c = (graph_facts _ c.requires).length
-
-pub input-requires : goal.input-requires
-input-requires c = (graph_facts _ c.requires).length
-
-pub effect-requires : goal.effect-requires
-effect-requires c = (graph_facts _ c.requires).length
-
-pub unary-requires : goal.unary-requires
-unary-requires c = (graph_facts _ c.requires).length
-
-pub binary-requires : goal.binary-requires
-binary-requires c = (graph_facts _ c.requires).length
-
-pub slice-requires : goal.slice-requires
-slice-requires c = (graph_facts _ c.requires).length
-
-pub concat-done-requires : goal.concat-done-requires
-concat-done-requires c = (graph_facts _ c.requires).length
-
-pub unsigned_range-done-requires : goal.unsigned_range-done-requires
-unsigned_range-done-requires c = (graph_facts _ c.requires).length
-
 pub returns-in-Constant : goal.returns-in-Constant
 unfolding worked
 returns-in-Constant c = rw (c.in-Constant.is, c.settle.ensures) (ap (leaf_out c.args.full) c.constant.ensures)

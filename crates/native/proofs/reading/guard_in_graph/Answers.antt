@@ -3,15 +3,6 @@ use Rattle.graph.proofs.Grown.{graph_facts}
 use borrow.Author.Tests.{lt-ltb, le-ltb}
 use Rattle.native.proofs.reading.guard_in_graph.Goals as goal
 
-pub count-requires : goal.count-requires
-count-requires c = (graph_facts _ c.requires).length
-
-pub type_at-requires : goal.type_at-requires
-type_at-requires c = (graph_facts _ c.requires).length
-
-pub guarded-found-requires : goal.guarded-found-requires
-guarded-found-requires c = (graph_facts _ c.requires).length
-
 pub returns-in-Some : goal.returns-in-Some
 unfolding guard_in_graph
 returns-in-Some c = rw (← c.count.ensures, lt-ltb _ _ c.if-condition-count.true, ← c.type_at.ensures, ← c.same_type.ensures, c.if-same_type.true, ← c.guarded-found.ensures, c.in-Some.is)

@@ -4,12 +4,6 @@ use Rattle.graph.proofs.Grown.{graph_facts}
 use borrow.Author.Tests.{lt-ltb, le-ltb}
 use Rattle.native.proofs.reading.literal_in_graph.Goals as goal
 
-pub count-requires : goal.count-requires
-count-requires c = (graph_facts _ c.requires).length
-
-pub literal-value-requires : goal.literal-value-requires
-literal-value-requires c = (graph_facts _ c.requires).length
-
 pub returns-in-Some : goal.returns-in-Some
 unfolding literal_in_graph
 returns-in-Some c =

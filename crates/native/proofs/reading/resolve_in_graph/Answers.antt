@@ -5,12 +5,6 @@ use borrow.Author.Tests.{lt-ltb, le-ltb}
 use mathlib.Core.Path.{ap}
 use Rattle.native.proofs.reading.resolve_in_graph.Goals as goal
 
-pub count-requires : goal.count-requires
-count-requires c = (graph_facts _ c.requires).length
-
-pub resolve-requires : goal.resolve-requires
-resolve-requires c = (graph_facts _ c.requires).length
-
 pub returns-then-id-count : goal.returns-then-id-count
 unfolding resolve_in_graph
 returns-then-id-count c =

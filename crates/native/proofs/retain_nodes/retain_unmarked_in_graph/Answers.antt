@@ -3,9 +3,6 @@ use Rattle.graph.proofs.Grown.{graph_facts}
 use Rattle.native.specs.Retain.{kept, retention, retain_in_graph}
 use Rattle.native.proofs.retain_nodes.retain_unmarked_in_graph.Goals as goal
 
-pub is_keep_list-requires : goal.is_keep_list-requires
-is_keep_list-requires c = (graph_facts c.args.g.now c.requires).length
-
 pub retain-requires : goal.retain-requires
 retain-requires c = (c.requires, sym c.is_keep_list.ensures ∙ c.if-is_keep_list.true)
 

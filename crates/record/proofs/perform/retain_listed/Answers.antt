@@ -5,9 +5,6 @@ use Rattle.graph.proofs.Grown.{graph_facts}
 use Rattle.record.specs.Perform.{widened}
 use Rattle.record.proofs.perform.retain_listed.Goals as goal
 
-pub count-requires : goal.count-requires
-count-requires c = (graph_facts _ c.requires).length
-
 pub returns : goal.returns
 returns c =
     let lent = c.lent_words-lent in

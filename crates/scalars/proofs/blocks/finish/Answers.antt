@@ -26,9 +26,6 @@ within : (b : List ℕ → Bool) (at : ℕ) (out text after : List ℕ) (n : ℕ
     → length after ≡ length (take (length out - at) (drop at out)) → at + n ≤ length out
 within b at out text after n l e q s = omega (arith, l, rw part_from at (fits _ _ text after n e q s), length-drop at out)
 
-pub count-requires : goal.count-requires
-count-requires c = (graph_facts _ (grown-is_graph c.end_inside-at.ensures.grown)).length
-
 pub overflow_add-at : goal.overflow_add-at
 overflow_add-at c =
     omega (arith, within (λ x. leb LINE (length x)) c.end_inside-at.result c.end_inside-at.new.out (nodes_line c.count.result) _ _ (omega arith) c.put_nodes-end.ensures.value c.put_nodes-end.ensures.line_after c.put_nodes-end.auto.line)
