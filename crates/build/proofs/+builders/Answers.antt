@@ -49,6 +49,13 @@ try_modular-returns-then-budget-eq0 t c = rw (try_none _ _ _ _ _ c.if-budget-eq0
 pub try_modular-returns-in_default : goal.try_modular-returns-in_default
 try_modular-returns-in_default t c = rw (on_out-tail, ← c.modular-tried.ensures, on_nothing-stop _ _ _ _ c.in_default.not-None)
 
+pub try_modular-go_on-requires : goal.try_modular-go_on-requires
+try_modular-go_on-requires t c =
+    elim c.if-has_modular_plan.branch [
+      | try_modular-then-has_modular_plan+in-None w ↦ omega (arith, none_falls _ _ _ (rw w.in-None.is at w.modular-tried.ensures), ap length w.g-is, ap (λ (b : Budget). b.units) w.left-is)
+      | try_modular-else-has_modular_plan w ↦ omega (arith, ap length w.g-is, ap (λ (b : Budget). b.units) w.left-is)
+    ]
+
 pub try_modular-returns : goal.try_modular-returns
 try_modular-returns t c =
     let a = c.args in
@@ -62,6 +69,9 @@ try_modular-returns t c =
 
 pub try_masked-returns-in_default : goal.try_masked-returns-in_default
 try_masked-returns-in_default t c = rw (← c.masked_operation-tried.ensures, on_nothing-stop _ _ _ _ c.in_default.not-None)
+
+pub try_masked-go_on-requires : goal.try_masked-go_on-requires
+try_masked-go_on-requires t c = omega (arith, masked_falls _ _ _ (rw c.in-None.is at c.masked_operation-tried.ensures))
 
 pub try_masked-returns : goal.try_masked-returns
 try_masked-returns t c = rw (← c.masked_operation-tried.ensures, c.in-None.is) c.go_on.ensures
@@ -114,11 +124,17 @@ constant_binary-returns t c = rw (constant-inserted, ← c.constant-built.ensure
 pub slice_identity-returns-in_default : goal.slice_identity-returns-in_default
 slice_identity-returns-in_default t c = rw (← c.slice-part.ensures, on_id-stop _ _ _ _ c.in_default.not-Id)
 
+pub slice_identity-identity-requires : goal.slice_identity-identity-requires
+slice_identity-identity-requires t c = omega (arith, units_fall _ _ _ c.slice-part.ensures)
+
 pub slice_identity-returns : goal.slice_identity-returns
 slice_identity-returns t c = rw (← c.slice-part.ensures, c.in-Id.is, on_out-tail) c.identity.ensures
 
 pub slice_shift-returns-in_default : goal.slice_shift-returns-in_default
 slice_shift-returns-in_default t c = rw (← c.slice-part.ensures, on_id-stop _ _ _ _ c.in_default.not-Id)
+
+pub slice_shift-constant_binary-requires : goal.slice_shift-constant_binary-requires
+slice_shift-constant_binary-requires t c = omega (arith, units_fall _ _ _ c.slice-part.ensures)
 
 pub slice_shift-returns : goal.slice_shift-returns
 slice_shift-returns t c = rw (← c.slice-part.ensures, c.in-Id.is) c.constant_binary.ensures
@@ -126,11 +142,17 @@ slice_shift-returns t c = rw (← c.slice-part.ensures, c.in-Id.is) c.constant_b
 pub and_or-returns-in_default : goal.and_or-returns-in_default
 and_or-returns-in_default t c = rw (← c.binary-masked.ensures, on_id-stop _ _ _ _ c.in_default.not-Id)
 
+pub and_or-constant_binary-requires : goal.and_or-constant_binary-requires
+and_or-constant_binary-requires t c = omega (arith, units_fall _ _ _ c.binary-masked.ensures)
+
 pub and_or-returns : goal.and_or-returns
 and_or-returns t c = rw (← c.binary-masked.ensures, c.in-Id.is) c.constant_binary.ensures
 
 pub masked_operation-returns-in_default : goal.masked_operation-returns-in_default
 masked_operation-returns-in_default t c = rw (← c.binary-kept.ensures, on_id-stop _ _ _ _ c.in_default.not-Id)
+
+pub masked_operation-constant_binary-requires : goal.masked_operation-constant_binary-requires
+masked_operation-constant_binary-requires t c = omega (arith, units_fall _ _ _ c.binary-kept.ensures)
 
 pub masked_operation-returns : goal.masked_operation-returns
 masked_operation-returns t c = rw (← c.binary-kept.ensures, c.in-Id.is) c.constant_binary.ensures
@@ -138,8 +160,14 @@ masked_operation-returns t c = rw (← c.binary-kept.ensures, c.in-Id.is) c.cons
 pub truncated-returns-in_default : goal.truncated-returns-in_default
 truncated-returns-in_default t c = rw (← c.unary-first.ensures, on_id-stop _ _ _ _ c.in_default.not-Id)
 
+pub truncated-unary-second-requires : goal.truncated-unary-second-requires
+truncated-unary-second-requires t c = omega (arith, units_fall _ _ _ c.unary-first.ensures)
+
 pub truncated-returns-in_default-other : goal.truncated-returns-in_default-other
 truncated-returns-in_default-other t c = rw (← c.unary-first.ensures, c.in-Id.is, ← c.unary-second.ensures, on_id-stop _ _ _ _ c.in_default-other.not-Id)
+
+pub truncated-binary-requires : goal.truncated-binary-requires
+truncated-binary-requires t c = omega (arith, units_fall _ _ _ c.unary-first.ensures, units_fall _ _ _ c.unary-second.ensures)
 
 pub truncated-returns : goal.truncated-returns
 truncated-returns t c = rw (← c.unary-first.ensures, c.in-Id.is, ← c.unary-second.ensures, c.in-Id-other.is, on_out-tail) c.binary.ensures
@@ -147,8 +175,14 @@ truncated-returns t c = rw (← c.unary-first.ensures, c.in-Id.is, ← c.unary-s
 pub split_concat-returns-in_default : goal.split_concat-returns-in_default
 split_concat-returns-in_default t c = rw (← c.slice-first.ensures, on_id-stop _ _ _ _ c.in_default.not-Id)
 
+pub split_concat-slice-second-requires : goal.split_concat-slice-second-requires
+split_concat-slice-second-requires t c = omega (arith, units_fall _ _ _ c.slice-first.ensures)
+
 pub split_concat-returns-in_default-other : goal.split_concat-returns-in_default-other
 split_concat-returns-in_default-other t c = rw (← c.slice-first.ensures, c.in-Id.is, ← c.slice-second.ensures, on_id-stop _ _ _ _ c.in_default-other.not-Id)
+
+pub split_concat-concat-requires : goal.split_concat-concat-requires
+split_concat-concat-requires t c = omega (arith, units_fall _ _ _ c.slice-first.ensures, units_fall _ _ _ c.slice-second.ensures)
 
 pub split_concat-returns : goal.split_concat-returns
 split_concat-returns t c = rw (← c.slice-first.ensures, c.in-Id.is, ← c.slice-second.ensures, c.in-Id-other.is, on_out-tail) c.concat.ensures
