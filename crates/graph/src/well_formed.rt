@@ -1,5 +1,5 @@
 // Question 1: is the region a graph?
-ghost use Rattle.std.specs.Prelude.{◌≡◌, length, drop};
+ghost use Rattle.std.specs.Prelude.{◌≡◌, true, false, drop, MatchOption};
 ghost use Rattle.word.specs.Value.{val};
 ghost use Rattle.graph.specs.Layout.{REGION};
 ghost use Rattle.graph.specs.WellFormed.{is_type, is_range, are_fields, is_operation, is_alias, is_node, are_nodes, are_zeros, is_graph};
@@ -151,15 +151,32 @@ fn are_zeros(g: &[u64], from: usize) -> bool
     ones == 0
 }
 
-pub fn is_graph(g: &[u64]) -> bool
+fn is_graph_region(g: &Region) -> bool
     ensures { result ≡ is_graph g.now }
 {
-    let Some(region) = g.as_array::<REGION>() else {
-        return false;
-    };
-    let nodes = count(region);
+    let nodes = count(g);
     if LIMIT < nodes {
         return false;
     }
-    are_nodes(region, nodes) && are_zeros(region, (FIRST + WORDS * nodes) as usize)
+    are_nodes(g, nodes) && are_zeros(g, (FIRST + WORDS * nodes) as usize)
+}
+
+// The graph that a slice holds, if it is one.
+pub fn as_graph(g: &[u64]) -> Option<&Region>
+    ensures { MatchOption result (is_graph g.now ≡ false) (λ region. (is_graph g.now ≡ true) × (region.now ≡ g.now)) }
+{
+    let Some(region) = g.as_array() else {
+        return None;
+    };
+    if is_graph_region(region) {
+        Some(region)
+    } else {
+        None
+    }
+}
+
+pub fn is_graph(g: &[u64]) -> bool
+    ensures { result ≡ is_graph g.now }
+{
+    as_graph(g).is_some()
 }

@@ -5,14 +5,15 @@ ghost use Rattle.native.specs.Call.{answer_of};
 ghost use Rattle.mark.specs.WellFormed.{is_marked};
 ghost use Rattle.mark.specs.Mark.{marking_of, marking, mark_in_graph, mark_call, returning, return_in_graph, return_call};
 
-use crate::layout::{MOST, standing};
+use crate::layout::{MOST, Marks, standing};
 use crate::moving::{go_back, leave_standing, set_mark};
 use crate::well_formed::is_marked;
 use crate::MarkId;
 use answer::Refusal;
 use native::Answer;
+use graph::layout::Region;
 
-pub fn mark_in_graph(g: &[u64], m: &mut [u64]) -> Result<MarkId, Refusal>
+pub fn mark_in_graph(g: &Region, m: &mut Marks) -> Result<MarkId, Refusal>
     requires { is_marked g.now m.old ≡ true }
     ensures { marking (marking_of result) m.new ≡ mark_in_graph g.now m.old }
 {
@@ -36,7 +37,7 @@ pub fn mark(g: &[u64], m: &mut [u64]) -> Result<MarkId, Refusal>
 }
 
 // The graph as it was at a mark that stands; later marks are dropped.
-pub fn return_to_in_graph(g: &mut [u64], m: &mut [u64], mark: MarkId) -> Result<Answer, Refusal>
+pub fn return_to_in_graph(g: &mut Region, m: &mut Marks, mark: MarkId) -> Result<Answer, Refusal>
     requires { is_marked g.old m.old ≡ true }
     ensures { returning (answer_of result) g.new m.new ≡ return_in_graph g.old m.old mark.0 }
 {

@@ -13,9 +13,11 @@ pub const FIRST: u64 = 1;
 // Words of the region.
 pub const MARKS: usize = (FIRST + MOST * SPAN) as usize;
 
+// The words of the marks: how many stand, and each of the sixteen.
+pub type Marks = [u64; MARKS];
+
 // How many marks stand.
-pub(crate) fn standing(m: &[u64]) -> u64
-    requires { length m.now ≡ MARKS }
+pub(crate) fn standing(m: &Marks) -> u64
     ensures { result ≡ standing m.now }
 {
     m[0]

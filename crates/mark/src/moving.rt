@@ -5,13 +5,13 @@ ghost use Rattle.graph.specs.WellFormed.{is_graph};
 ghost use Rattle.mark.specs.Layout.{MARKS, MOST, count_at};
 ghost use Rattle.mark.specs.Mark.{marked, returned, standing_only};
 
-use crate::layout::{FIRST, SPAN};
+use crate::layout::{FIRST, Marks, SPAN};
 use graph::alias::{restore_to, save_aliases};
 use graph::layout::{NODES, Region, count};
 
 // Mark `mark` of the graph as it is; it is the last.
-pub(crate) fn set_mark(g: &Region, m: &mut [u64], mark: u64)
-    requires { (length m.old ≡ MARKS) × (count_of g.now ≤ LIMIT) × (mark < MOST) }
+pub(crate) fn set_mark(g: &Region, m: &mut Marks, mark: u64)
+    requires { (count_of g.now ≤ LIMIT) × (mark < MOST) }
     ensures { m.new ≡ marked g.now m.old mark }
 {
     let at = (FIRST + SPAN * mark) as usize;
@@ -23,8 +23,8 @@ pub(crate) fn set_mark(g: &Region, m: &mut [u64], mark: u64)
 }
 
 // The graph as it was at a mark.
-pub(crate) fn go_back(g: &mut [u64], m: &[u64], mark: u64)
-    requires { (is_graph g.old ≡ true) × (length m.now ≡ MARKS) × (mark < MOST) × (count_at m.now mark ≤ count_of g.old) }
+pub(crate) fn go_back(g: &mut Region, m: &Marks, mark: u64)
+    requires { (is_graph g.old ≡ true) × (mark < MOST) × (count_at m.now mark ≤ count_of g.old) }
     ensures { g.new ≡ returned g.old m.now mark }
 {
     let at = (FIRST + SPAN * mark) as usize;
@@ -36,8 +36,7 @@ pub(crate) fn go_back(g: &mut [u64], m: &[u64], mark: u64)
 }
 
 // The first marks alone stand.
-pub(crate) fn leave_standing(m: &mut [u64], marks: u64)
-    requires { length m.old ≡ MARKS }
+pub(crate) fn leave_standing(m: &mut Marks, marks: u64)
     ensures { m.new ≡ standing_only marks m.old }
 {
     m[0] = marks;

@@ -10,10 +10,11 @@ use crate::moving::leave_standing;
 use crate::well_formed::is_marked;
 use answer::Refusal;
 use native::retain_nodes::retain_unmarked_in_graph;
+use graph::layout::Region;
+use crate::layout::Marks;
 
 // After a retain that is not refused no mark stands.
-fn drop_marks(m: &mut [u64], retained: Result<u64, Refusal>)
-    requires { length m.old ≡ MARKS }
+fn drop_marks(m: &mut Marks, retained: Result<u64, Refusal>)
     ensures { m.new ≡ unmarked (outcome_of retained) m.old }
 {
     match retained {
@@ -22,7 +23,7 @@ fn drop_marks(m: &mut [u64], retained: Result<u64, Refusal>)
     }
 }
 
-pub fn retain_in_graph(g: &mut [u64], m: &mut [u64], keep: &[u8], mapping: &mut [u64]) -> Result<u64, Refusal>
+pub fn retain_in_graph(g: &mut Region, m: &mut Marks, keep: &[u8], mapping: &mut [u64]) -> Result<u64, Refusal>
     requires { is_marked g.old m.old ≡ true }
     ensures { retaining (retention (outcome_of result) g.new mapping.new) m.new ≡ retain_in_graph g.old m.old keep.now mapping.old }
 {

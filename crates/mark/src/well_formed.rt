@@ -4,7 +4,7 @@ ghost use Rattle.graph.specs.Layout.{LIMIT};
 ghost use Rattle.mark.specs.Layout.{MARKS, MOST};
 ghost use Rattle.mark.specs.WellFormed.{are_aliases, is_mark, are_marks, is_marked};
 
-use crate::layout::{FIRST, MARKS, MOST, SPAN};
+use crate::layout::{FIRST, MARKS, MOST, Marks, SPAN};
 use graph::layout::{NODES, count};
 use graph::well_formed::{is_alias, is_graph};
 
@@ -24,8 +24,8 @@ fn are_aliases(words: &[u64], nodes: u64) -> bool
 }
 
 // A mark of at most `limit` nodes, with alias words of a graph.
-fn is_mark(m: &[u64], mark: u64, limit: u64) -> bool
-    requires { (length m.now ≡ MARKS) × (mark < MOST) × (limit ≤ LIMIT) }
+fn is_mark(m: &Marks, mark: u64, limit: u64) -> bool
+    requires { (mark < MOST) × (limit ≤ LIMIT) }
     ensures { result ≡ is_mark limit m.now mark }
 {
     let at = (FIRST + SPAN * mark) as usize;

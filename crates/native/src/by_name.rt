@@ -15,8 +15,9 @@ use range::{Range, ScalarType};
 use request::Request;
 use word::Word;
 use answer::Refusal;
+use graph::layout::Region;
 
-pub fn constant_in_graph(g: &mut [u64], ty: ScalarType, value: Word) -> Result<Answer, Refusal>
+pub fn constant_in_graph(g: &mut Region, ty: ScalarType, value: Word) -> Result<Answer, Refusal>
     requires { is_graph g.old ≡ true }
     ensures { called (answer_of result) g.new ≡ request_in_graph g.old (asked.constant ty (val value)) }
 {
@@ -29,7 +30,7 @@ pub fn constant(g: &mut [u64], ty: ScalarType, value: Word) -> Result<Answer, Re
     call(g, Request::Constant(value, ty))
 }
 
-pub fn input_in_graph(g: &mut [u64], id: InputId, ty: ScalarType, range: Option<Range>) -> Result<Answer, Refusal>
+pub fn input_in_graph(g: &mut Region, id: InputId, ty: ScalarType, range: Option<Range>) -> Result<Answer, Refusal>
     requires { is_graph g.old ≡ true }
     ensures { called (answer_of result) g.new ≡ request_in_graph g.old (asked.input id.0 ty (interval_of range)) }
 {
@@ -42,7 +43,7 @@ pub fn input(g: &mut [u64], id: InputId, ty: ScalarType, range: Option<Range>) -
     call(g, Request::Input(id, range, ty))
 }
 
-pub fn effect_in_graph(g: &mut [u64], id: EffectId, ty: ScalarType) -> Result<Answer, Refusal>
+pub fn effect_in_graph(g: &mut Region, id: EffectId, ty: ScalarType) -> Result<Answer, Refusal>
     requires { is_graph g.old ≡ true }
     ensures { called (answer_of result) g.new ≡ request_in_graph g.old (asked.effect id.0 ty) }
 {
@@ -55,7 +56,7 @@ pub fn effect(g: &mut [u64], id: EffectId, ty: ScalarType) -> Result<Answer, Ref
     call(g, Request::Effect(id, ty))
 }
 
-pub fn unary_in_graph(g: &mut [u64], ty: ScalarType, op: Unary, value: NodeId) -> Result<Answer, Refusal>
+pub fn unary_in_graph(g: &mut Region, ty: ScalarType, op: Unary, value: NodeId) -> Result<Answer, Refusal>
     requires { is_graph g.old ≡ true }
     ensures { called (answer_of result) g.new ≡ request_in_graph g.old (asked.unary ty op value.0) }
 {
@@ -69,7 +70,7 @@ pub fn unary(g: &mut [u64], ty: ScalarType, op: Unary, value: NodeId) -> Result<
 }
 
 pub fn binary_in_graph(
-    g: &mut [u64],
+    g: &mut Region,
     ty: ScalarType,
     op: Binary,
     left: NodeId,
@@ -87,7 +88,7 @@ pub fn binary(g: &mut [u64], ty: ScalarType, op: Binary, left: NodeId, right: No
     call(g, Request::Binary(left, right, ty, op))
 }
 
-pub fn slice_in_graph(g: &mut [u64], value: NodeId, offset: u16, width: u16) -> Result<Answer, Refusal>
+pub fn slice_in_graph(g: &mut Region, value: NodeId, offset: u16, width: u16) -> Result<Answer, Refusal>
     requires { is_graph g.old ≡ true }
     ensures { called (answer_of result) g.new ≡ request_in_graph g.old (asked.slice value.0 offset width) }
 {
@@ -101,7 +102,7 @@ pub fn slice(g: &mut [u64], value: NodeId, offset: u16, width: u16) -> Result<An
 }
 
 pub fn concat_in_graph(
-    g: &mut [u64],
+    g: &mut Region,
     high: NodeId,
     low: NodeId,
     low_width: u16,
@@ -119,7 +120,7 @@ pub fn concat(g: &mut [u64], high: NodeId, low: NodeId, low_width: u16, width: u
     call(g, Request::Concat(high, low, low_width, width))
 }
 
-pub fn unsigned_range_in_graph(g: &mut [u64], value: NodeId, low: Word, high: Word) -> Result<Answer, Refusal>
+pub fn unsigned_range_in_graph(g: &mut Region, value: NodeId, low: Word, high: Word) -> Result<Answer, Refusal>
     requires { is_graph g.old ≡ true }
     ensures { called (answer_of result) g.new ≡ request_in_graph g.old (asked.unsigned_range value.0 (val low) (val high)) }
 {
@@ -132,7 +133,7 @@ pub fn unsigned_range(g: &mut [u64], value: NodeId, low: Word, high: Word) -> Re
     call(g, Request::UnsignedRange(value, low, high))
 }
 
-pub fn assume_guard_in_graph(g: &mut [u64], condition: NodeId, expected: bool) -> Result<Answer, Refusal>
+pub fn assume_guard_in_graph(g: &mut Region, condition: NodeId, expected: bool) -> Result<Answer, Refusal>
     requires { is_graph g.old ≡ true }
     ensures { called (answer_of result) g.new ≡ request_in_graph g.old (asked.guard condition.0 expected) }
 {

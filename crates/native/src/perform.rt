@@ -43,7 +43,7 @@ pub(crate) fn settle(built: Built, full: Refusal) -> Result<Answer, Refusal>
 }
 
 // A condition is assumed; without room for a node its aliases and nodes are taken back. Most guards narrow nothing, and need nothing saved.
-fn assume_or_restore(g: &mut [u64], condition: NodeId, expected: bool, full: Refusal) -> Result<Answer, Refusal>
+fn assume_or_restore(g: &mut Region, condition: NodeId, expected: bool, full: Refusal) -> Result<Answer, Refusal>
     requires { is_graph g.old ≡ true }
     ensures { called (answer_of result) g.new ≡ guard_out full g.old (assumed_guard g.old condition.0 expected).outcome (assumed_guard g.old condition.0 expected).words }
 {
@@ -65,7 +65,7 @@ fn assume_or_restore(g: &mut [u64], condition: NodeId, expected: bool, full: Ref
 }
 
 // The work on a request whose questions are answered yes.
-fn work(g: &mut [u64], request: Request, full: Refusal) -> Result<Answer, Refusal>
+fn work(g: &mut Region, request: Request, full: Refusal) -> Result<Answer, Refusal>
     requires { is_graph g.old ≡ true }
     ensures { called (answer_of result) g.new ≡ worked full g.old (request_of request) }
 {
@@ -114,7 +114,7 @@ fn take_back(g: &mut Region, nodes: u64, answer: Result<Answer, Refusal>)
 }
 
 // Questions 2 to 5, then the work; `full` is the answer without room for a node.
-fn perform(g: &mut [u64], request: Request, full: Refusal) -> Result<Answer, Refusal>
+fn perform(g: &mut Region, request: Request, full: Refusal) -> Result<Answer, Refusal>
     requires { is_graph g.old ≡ true }
     ensures { called (answer_of result) g.new ≡ performed full g.old (request_of request) }
 {
@@ -137,7 +137,7 @@ fn perform(g: &mut [u64], request: Request, full: Refusal) -> Result<Answer, Ref
 }
 
 // For a caller that knows the region to be a graph: question 1 is not asked. On another region nothing is promised.
-pub fn call_in_graph(g: &mut [u64], request: Request) -> Result<Answer, Refusal>
+pub fn call_in_graph(g: &mut Region, request: Request) -> Result<Answer, Refusal>
     requires { is_graph g.old ≡ true }
     ensures { called (answer_of result) g.new ≡ request_in_graph g.old (request_of request) }
 {
@@ -147,8 +147,11 @@ pub fn call_in_graph(g: &mut [u64], request: Request) -> Result<Answer, Refusal>
 pub fn call(g: &mut [u64], request: Request) -> Result<Answer, Refusal>
     ensures { called (answer_of result) g.new ≡ request_call g.old (request_of request) }
 {
-    if is_graph(g) {
-        call_in_graph(g, request)
+    let Some(region) = g.as_mut_array() else {
+        return Err(Refusal::Graph);
+    };
+    if is_graph(region) {
+        call_in_graph(region, request)
     } else {
         Err(Refusal::Graph)
     }

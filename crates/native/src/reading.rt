@@ -9,16 +9,16 @@ ghost use Rattle.native.specs.Guard.{reading_of, guard_in_graph, guard_call};
 use crate::Answer;
 use answer::Refusal;
 use fold::shape::same_type;
-use graph::layout::count;
+use graph::layout::{Region, count};
 use graph::read::type_at;
-use graph::well_formed::is_graph;
+use graph::well_formed::as_graph;
 use graph::{NodeId, read};
 use guard::{Guard, guarded};
 use range::ScalarType;
 use word::Word;
 
 // The value of a constant, or None.
-pub fn literal_in_graph(g: &[u64], id: NodeId) -> Result<Option<Word>, Refusal>
+pub fn literal_in_graph(g: &Region, id: NodeId) -> Result<Option<Word>, Refusal>
     requires { is_graph g.now ≡ true }
     ensures { outcome_of result ≡ literal_in_graph g.now id.0 }
 {
@@ -36,15 +36,12 @@ pub fn literal_in_graph(g: &[u64], id: NodeId) -> Result<Option<Word>, Refusal>
 pub fn literal(g: &[u64], id: NodeId) -> Result<Option<Word>, Refusal>
     ensures { outcome_of result ≡ literal_call g.now id.0 }
 {
-    if is_graph(g) {
-        literal_in_graph(g, id)
-    } else {
-        Err(Refusal::Graph)
-    }
+    let region = as_graph(g).ok_or(Refusal::Graph)?;
+    literal_in_graph(region, id)
 }
 
 // The node that stands for this one now.
-pub fn resolve_in_graph(g: &[u64], id: NodeId) -> Result<Answer, Refusal>
+pub fn resolve_in_graph(g: &Region, id: NodeId) -> Result<Answer, Refusal>
     requires { is_graph g.now ≡ true }
     ensures { answer_of result ≡ resolve_in_graph g.now id.0 }
 {
@@ -58,15 +55,12 @@ pub fn resolve_in_graph(g: &[u64], id: NodeId) -> Result<Answer, Refusal>
 pub fn resolve(g: &[u64], id: NodeId) -> Result<Answer, Refusal>
     ensures { answer_of result ≡ resolve_call g.now id.0 }
 {
-    if is_graph(g) {
-        resolve_in_graph(g, id)
-    } else {
-        Err(Refusal::Graph)
-    }
+    let region = as_graph(g).ok_or(Refusal::Graph)?;
+    resolve_in_graph(region, id)
 }
 
 // The guard of a condition.
-pub fn guard_in_graph(g: &[u64], condition: NodeId, expected: bool) -> Result<Option<Guard>, Refusal>
+pub fn guard_in_graph(g: &Region, condition: NodeId, expected: bool) -> Result<Option<Guard>, Refusal>
     requires { is_graph g.now ≡ true }
     ensures { reading_of result ≡ guard_in_graph g.now condition.0 expected }
 {
@@ -88,9 +82,6 @@ pub fn guard_in_graph(g: &[u64], condition: NodeId, expected: bool) -> Result<Op
 pub fn guard(g: &[u64], condition: NodeId, expected: bool) -> Result<Option<Guard>, Refusal>
     ensures { reading_of result ≡ guard_call g.now condition.0 expected }
 {
-    if is_graph(g) {
-        guard_in_graph(g, condition, expected)
-    } else {
-        Err(Refusal::Graph)
-    }
+    let region = as_graph(g).ok_or(Refusal::Graph)?;
+    guard_in_graph(region, condition, expected)
 }

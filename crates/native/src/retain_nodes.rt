@@ -7,8 +7,9 @@ ghost use Rattle.native.specs.Retain.{outcome_of, retention, retain_in_graph, re
 use answer::Refusal;
 use graph::well_formed::is_graph;
 use retain::keep_list::is_keep_list;
+use graph::layout::Region;
 
-pub fn retain_unmarked_in_graph(g: &mut [u64], keep: &[u8], mapping: &mut [u64]) -> Result<u64, Refusal>
+pub fn retain_unmarked_in_graph(g: &mut Region, keep: &[u8], mapping: &mut [u64]) -> Result<u64, Refusal>
     requires { is_graph g.old ≡ true }
     ensures { retention (outcome_of result) g.new mapping.new ≡ retain_in_graph g.old keep.now mapping.old }
 {
@@ -22,8 +23,11 @@ pub fn retain_unmarked_in_graph(g: &mut [u64], keep: &[u8], mapping: &mut [u64])
 pub fn retain_unmarked(g: &mut [u64], keep: &[u8], mapping: &mut [u64]) -> Result<u64, Refusal>
     ensures { retention (outcome_of result) g.new mapping.new ≡ retain_call g.old keep.now mapping.old }
 {
-    if is_graph(g) {
-        retain_unmarked_in_graph(g, keep, mapping)
+    let Some(region) = g.as_mut_array() else {
+        return Err(Refusal::Graph);
+    };
+    if is_graph(region) {
+        retain_unmarked_in_graph(region, keep, mapping)
     } else {
         Err(Refusal::Graph)
     }

@@ -13,7 +13,7 @@ use crate::decode::request_in;
 use crate::fields::short_of;
 use crate::line::{LINE, put_answer, put_bad, put_refusal, put_retained};
 use answer::Refusal;
-use graph::layout::count;
+use graph::layout::{Region, count};
 use graph::well_formed::is_graph;
 use native::perform::call_in_graph;
 use native::retain_nodes::retain_unmarked_in_graph;
@@ -71,7 +71,7 @@ fn lent_words(nodes: u64, words: usize) -> usize
     }
 }
 
-fn retain_listed(g: &mut [u64], mapping: &mut [u64], keep: &[u8]) -> Result<u64, Refusal>
+fn retain_listed(g: &mut Region, mapping: &mut [u64], keep: &[u8]) -> Result<u64, Refusal>
     requires { is_graph g.old ≡ true }
     ensures { retention (outcome_of result) g.new mapping.new ≡ widened (lent_words g.old mapping.old) mapping.old (retain_in_graph g.old keep.now (take (lent_words g.old mapping.old) mapping.old)) }
 {
@@ -80,7 +80,7 @@ fn retain_listed(g: &mut [u64], mapping: &mut [u64], keep: &[u8]) -> Result<u64,
 }
 
 // What a tag and a body ask for.
-fn perform_body(g: &mut [u64], mapping: &mut [u64], tag: u8, body: &[u8], line: &mut [u8]) -> Step
+fn perform_body(g: &mut Region, mapping: &mut [u64], tag: u8, body: &[u8], line: &mut [u8]) -> Step
     requires { (is_graph g.old ≡ true) × (LINE ≤ length line.old) }
     ensures { left (progress_of result) g.new mapping.new line.new ≡ written line.old (done_by (request_in_graph g.old) (retain_in_graph g.old) g.old mapping.old (asked_in tag body.now)) }
 {
@@ -98,7 +98,7 @@ fn perform_body(g: &mut [u64], mapping: &mut [u64], tag: u8, body: &[u8], line: 
     }
 }
 
-pub fn perform_in_graph(g: &mut [u64], mapping: &mut [u64], bytes: &[u8], line: &mut [u8]) -> Step
+pub fn perform_in_graph(g: &mut Region, mapping: &mut [u64], bytes: &[u8], line: &mut [u8]) -> Step
     requires { is_graph g.old ≡ true }
     ensures { left (progress_of result) g.new mapping.new line.new ≡ record_in_graph g.old mapping.old bytes.now line.old }
 {

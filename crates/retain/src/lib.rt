@@ -32,8 +32,7 @@ fn renumbered(mapping: &[u64], is_operand: bool, word: u64) -> u64
 }
 
 // The words of a node with its operands' new ids, without an alias.
-fn moved_words(g: &[u64], mapping: &[u64], node: u64) -> [u64; SIZE]
-    requires { length g.now ≡ REGION }
+fn moved_words(g: &Region, mapping: &[u64], node: u64) -> [u64; SIZE]
     ensures { result ≡ moved_words (λ i. get_or mapping.now i DROPPED) g.now node }
 {
     let mut words = [0; SIZE];
@@ -73,7 +72,7 @@ fn place(g: &mut Region, keep: &[u8], mapping: &mut [u64], node: u64, next: u64)
 }
 
 // Moves the kept nodes down and fills the mapping; the number of nodes left. An operand lies below its node, so that its new id is known.
-pub fn retain(g: &mut [u64], keep: &[u8], mapping: &mut [u64]) -> u64
+pub fn retain(g: &mut Region, keep: &[u8], mapping: &mut [u64]) -> u64
     requires { (is_graph g.old ≡ true) × (is_keep_list g.old keep.now mapping.old ≡ true) }
     ensures { (result ≡ kept_below keep.now (count_of g.old)) × (g.new ≡ retained g.old keep.now) × (mapping.new ≡ new_ids keep.now (count_of g.old)) }
 {

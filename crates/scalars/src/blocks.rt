@@ -3,7 +3,7 @@ ghost use Rattle.std.specs.Prelude.{◌≤◌, length};
 ghost use Rattle.meaning.specs.Program.{Grown};
 ghost use Rattle.scalars.specs.Blocks.{OneSays, Through, Stops, Drains, Fills};
 
-use graph::layout::count;
+use graph::layout::{Region, count};
 use record::line::put_nodes;
 use record::perform::{Step, first_length, perform_in_graph};
 use std::io::{Read, Stdin, Stdout, Write};
@@ -43,7 +43,7 @@ pub enum State {
     Failed,
 }
 
-fn run_one(g: &mut [u64], mapping: &mut [u64], bytes: &[u8], line: &mut [u8]) -> One
+fn run_one(g: &mut Region, mapping: &mut [u64], bytes: &[u8], line: &mut [u8]) -> One
     requires { Grown g.old }
     ensures { OneSays result g.old mapping.old bytes.now line.old g.new mapping.new line.new }
 {
@@ -60,7 +60,7 @@ fn run_one(g: &mut [u64], mapping: &mut [u64], bytes: &[u8], line: &mut [u8]) ->
 }
 
 // The whole records at the start of a block, as long as there is room for their lines.
-fn run_records(g: &mut [u64], mapping: &mut [u64], input: &[u8], out: &mut [u8]) -> Ran
+fn run_records(g: &mut Region, mapping: &mut [u64], input: &[u8], out: &mut [u8]) -> Ran
     requires { Grown g.old }
     ensures through { Through g.old mapping.old input.now out.old result.read result.written result.over g.new mapping.new out.new }
     ensures stops { Stops input.now out.new result.read result.written result.over }
@@ -95,7 +95,7 @@ fn run_records(g: &mut [u64], mapping: &mut [u64], input: &[u8], out: &mut [u8])
 // Runs a block's records and writes their lines, until no whole record is left.
 fn drain(
     mut stdout: Stdout,
-    g: &mut [u64],
+    g: &mut Region,
     mapping: &mut [u64],
     input: &[u8],
     out: &mut [u8],
@@ -146,7 +146,7 @@ fn read_some(mut stdin: Stdin, input: &mut [u8]) -> usize
 pub(crate) fn turn(
     stdin: Stdin,
     stdout: Stdout,
-    g: &mut [u64],
+    g: &mut Region,
     mapping: &mut [u64],
     input: &mut [u8],
     filled: usize,
@@ -173,7 +173,7 @@ pub(crate) fn turn(
 }
 
 // What is left at the end of the input is a record cut off.
-fn end_inside(g: &mut [u64], mapping: &mut [u64], rest: &[u8], out: &mut [u8]) -> usize
+fn end_inside(g: &mut Region, mapping: &mut [u64], rest: &[u8], out: &mut [u8]) -> usize
     requires { Grown g.old }
     ensures upper_bound { result ≤ length out.old }
     ensures grown { Grown g.new }
@@ -192,7 +192,7 @@ fn end_inside(g: &mut [u64], mapping: &mut [u64], rest: &[u8], out: &mut [u8]) -
 // The last lines: that of a record cut off, and the number of nodes.
 pub(crate) fn finish(
     mut stdout: Stdout,
-    g: &mut [u64],
+    g: &mut Region,
     mapping: &mut [u64],
     rest: &[u8],
     out: &mut [u8],

@@ -6,14 +6,14 @@ mod blocks;
 ghost use Rattle.meaning.specs.Program.{Grown};
 
 use blocks::{State, finish, turn};
-use graph::layout::{NODES, REGION};
+use graph::layout::{NODES, REGION, Region};
 use std::io::{Stdin, Stdout};
 
 // A proved loop has to end: it counts its turns down, from a number that no run uses up.
 fn run(
     stdin: Stdin,
     stdout: Stdout,
-    g: &mut [u64],
+    g: &mut Region,
     mapping: &mut [u64],
     input: &mut [u8],
     out: &mut [u8],

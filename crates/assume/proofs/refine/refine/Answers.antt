@@ -7,25 +7,16 @@ use Rattle.assume.proofs.refine.refine.Goals as goal
 
 pub loop-left-init : goal.loop-left-init
 unfolding refined
-loop-left-init c = (refl, refl)
-
-pub shape_of-g-in-Unchanged : goal.shape_of-g-in-Unchanged
-shape_of-g-in-Unchanged c = c.refine_step-step.auto.g ∙ c.loop-left.invariant.1
+loop-left-init c = refl
 
 pub returns-in-Unchanged : goal.returns-in-Unchanged
-returns-in-Unchanged c = let e = rw c.in-Unchanged.is at c.refine_step-step.ensures in sym (c.loop-left.invariant.0 ∙ steps_on (c.loop-left.left - 1) c.loop-left.left _ _ _ _ _ _ (omega arith) c.resolve-target.ensures _ _ e)
-
-pub shape_of-g-in-Full : goal.shape_of-g-in-Full
-shape_of-g-in-Full c = c.refine_step-step.auto.g ∙ c.loop-left.invariant.1
+returns-in-Unchanged c = let e = rw c.in-Unchanged.is at c.refine_step-step.ensures in sym (c.loop-left.invariant ∙ steps_on (c.loop-left.left - 1) c.loop-left.left _ _ _ _ _ _ (omega arith) c.resolve-target.ensures _ _ e)
 
 pub returns-in-Full : goal.returns-in-Full
-returns-in-Full c = let e = rw c.in-Full.is at c.refine_step-step.ensures in sym (c.loop-left.invariant.0 ∙ steps_on (c.loop-left.left - 1) c.loop-left.left _ _ _ _ _ _ (omega arith) c.resolve-target.ensures _ _ e)
-
-pub shape_of-g-in_default : goal.shape_of-g-in_default
-shape_of-g-in_default c = c.refine_step-step.auto.g ∙ c.loop-left.invariant.1
+returns-in-Full c = let e = rw c.in-Full.is at c.refine_step-step.ensures in sym (c.loop-left.invariant ∙ steps_on (c.loop-left.left - 1) c.loop-left.left _ _ _ _ _ _ (omega arith) c.resolve-target.ensures _ _ e)
 
 pub returns-in_default : goal.returns-in_default
-returns-in_default c = let e = rw (c.in-Narrowed.is, c.in_default.is) at c.refine_step-step.ensures in sym (c.loop-left.invariant.0 ∙ steps_on (c.loop-left.left - 1) c.loop-left.left _ _ _ _ _ _ (omega arith) c.resolve-target.ensures _ _ e)
+returns-in_default c = let e = rw (c.in-Narrowed.is, c.in_default.is) at c.refine_step-step.ensures in sym (c.loop-left.invariant ∙ steps_on (c.loop-left.left - 1) c.loop-left.left _ _ _ _ _ _ (omega arith) c.resolve-target.ensures _ _ e)
 
 pub overflow_sub-left : goal.overflow_sub-left
 overflow_sub-left c = omega arith
@@ -34,10 +25,7 @@ pub loop-left-smaller : goal.loop-left-smaller
 loop-left-smaller c = omega arith
 
 pub loop-left-preserved : goal.loop-left-preserved
-loop-left-preserved c = let e = rw (c.in-Narrowed.is, c.in-Some.is) at c.refine_step-step.ensures in (c.loop-left.invariant.0 ∙ steps_on (c.loop-left.left - 1) c.loop-left.left _ _ _ _ _ _ (omega arith) c.resolve-target.ensures _ _ e ∙ ap (refine_up_to (c.loop-left.left - 1) narrowed _ _) (sym c.limited_to-wanted.ensures), c.refine_step-step.auto.g ∙ c.loop-left.invariant.1)
-
-pub shape_of-g : goal.shape_of-g
-shape_of-g c = c.loop-left.invariant.1
+loop-left-preserved c = let e = rw (c.in-Narrowed.is, c.in-Some.is) at c.refine_step-step.ensures in c.loop-left.invariant ∙ steps_on (c.loop-left.left - 1) c.loop-left.left _ _ _ _ _ _ (omega arith) c.resolve-target.ensures _ _ e ∙ ap (refine_up_to (c.loop-left.left - 1) narrowed _ _) (sym c.limited_to-wanted.ensures)
 
 pub returns : goal.returns
-returns c = sym (c.loop-left.invariant.0 ∙ steps_none c.loop-left.left _ _ _ _ (omega arith))
+returns c = sym (c.loop-left.invariant ∙ steps_none c.loop-left.left _ _ _ _ (omega arith))
