@@ -56,13 +56,13 @@ pub(crate) fn signed_of(negative: bool, magnitude: Word) -> Option<Signed>
         hi: 0x8000_0000_0000_0000,
     };
     if negative {
-        if limit.lt(magnitude) {
+        if limit < magnitude {
             None
         } else {
             Some(magnitude.wrapping_neg().as_signed())
         }
     } else {
-        if magnitude.lt(limit) {
+        if magnitude < limit {
             Some(magnitude.as_signed())
         } else {
             None
