@@ -1,9 +1,9 @@
--- `Signed::not` meets its contract: the pattern's complement stands for -1 less the integer.
+-- `not` meets its contract: the pattern's complement stands for -1 less the integer.
 use Rattle.word.proofs.Sums.{signed_complement}
 use Rattle.word.proofs.SignedHalves.{int_mag}
 use Rattle.word.specs.Value.{int_of, signed}
 use Rattle.std.proofs.Common.{ℕ, ◌-◌, ◌^◌, ap, ◌∙◌, rules}
-use Rattle.word.proofs.Signed.not.Goals as goal
+use Rattle.word.proofs.bits.SignedNot.not.Goals as goal
 
 pub returns : goal.returns
 returns c = let s = c.args.self in

@@ -1,8 +1,8 @@
--- `Word::not` meets its contract, half by half.
+-- `not` meets its contract, half by half.
 use Rattle.word.proofs.Halves.{complement_halves, pred_sub}
 use Rattle.word.specs.Value.{val}
 use Rattle.std.proofs.Common.{◌+◌, ◌*◌, ◌^◌, sym, ◌∙◌, arith}
-use Rattle.word.proofs.Word.not.Goals as goal
+use Rattle.word.proofs.bits.WordNot.not.Goals as goal
 
 pub returns : goal.returns
 unfolding val

@@ -1,8 +1,8 @@
--- `Word::bitxor` meets its contract, half by half.
+-- `bitxor` meets its contract, half by half.
 use Rattle.word.specs.Value.{val}
 use lib.Bits.{xor_block}
 use Rattle.std.proofs.Common.{sym, arith}
-use Rattle.word.proofs.Word.bitxor.Goals as goal
+use Rattle.word.proofs.bits.WordBitXor.bitxor.Goals as goal
 
 pub returns : goal.returns
 unfolding val

@@ -1,8 +1,8 @@
--- `Word::bitor` meets its contract, half by half.
+-- `bitor` meets its contract, half by half.
 use Rattle.word.specs.Value.{val}
 use lib.Bits.{or_block}
 use Rattle.std.proofs.Common.{sym, arith}
-use Rattle.word.proofs.Word.bitor.Goals as goal
+use Rattle.word.proofs.bits.WordBitOr.bitor.Goals as goal
 
 pub returns : goal.returns
 unfolding val

@@ -1,8 +1,8 @@
--- `Word::bitand` meets its contract, half by half.
+-- `bitand` meets its contract, half by half.
 use Rattle.word.specs.Value.{val}
 use lib.Bits.{and_block}
 use Rattle.std.proofs.Common.{sym, arith}
-use Rattle.word.proofs.Word.bitand.Goals as goal
+use Rattle.word.proofs.bits.WordBitAnd.bitand.Goals as goal
 
 pub returns : goal.returns
 unfolding val
