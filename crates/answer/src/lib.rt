@@ -5,9 +5,9 @@ ghost use Rattle.std.specs.Prelude.{◌≡◌};
 ghost use Rattle.answer.specs.Refusal.{refusal_number};
 
 // What a no to each question refuses, by the questions' numbers.
-#[derive(Clone, Copy)]
+#[derive(Clone, Copy, PartialEq, Eq, Debug)]
 pub enum Refusal {
-    Graph,
+    Graph = 1,
     Width,
     Id,
     Typing,
@@ -25,17 +25,6 @@ impl Refusal {
     pub fn number(self) -> u64
         ensures { result ≡ refusal_number self }
     {
-        match self {
-            Refusal::Graph => 1,
-            Refusal::Width => 2,
-            Refusal::Id => 3,
-            Refusal::Typing => 4,
-            Refusal::Value => 5,
-            Refusal::Keep => 6,
-            Refusal::Room => 7,
-            Refusal::Units => 8,
-            Refusal::Marks => 9,
-            Refusal::Mark => 10,
-        }
+        self as u64
     }
 }

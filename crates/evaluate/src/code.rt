@@ -43,43 +43,28 @@ const LEADING_ZEROS: u64 = PARAMETER + 2;
 
 const TRAILING_ZEROS: u64 = PARAMETER + 3;
 
-const ADD: u64 = BINARY;
-
-const SUB: u64 = BINARY + 1;
-
-const MUL: u64 = BINARY + 2;
-
-const AND: u64 = BINARY + 3;
-
-const OR: u64 = BINARY + 4;
-
-const XOR: u64 = BINARY + 5;
-
-const SHIFT_LEFT: u64 = BINARY + 6;
-
-const SHIFT_RIGHT: u64 = BINARY + 7;
-
-const ARITHMETIC_SHIFT_RIGHT: u64 = BINARY + 8;
-
-const EQUAL: u64 = BINARY + 9;
-
-const NOT_EQUAL: u64 = BINARY + 10;
-
-const LESS_SIGNED: u64 = BINARY + 11;
-
-const LESS_UNSIGNED: u64 = BINARY + 12;
-
-const LESS_EQUAL_SIGNED: u64 = BINARY + 13;
-
-const LESS_EQUAL_UNSIGNED: u64 = BINARY + 14;
-
-const DIVIDE_SIGNED: u64 = BINARY + 15;
-
-const REMAINDER_SIGNED: u64 = BINARY + 16;
-
-const DIVIDE_UNSIGNED: u64 = BINARY + 17;
-
-const REMAINDER_UNSIGNED: u64 = BINARY + 18;
+// The binary operators in the order of their codes.
+const BINARIES: [Binary; 19] = [
+    Binary::Add,
+    Binary::Sub,
+    Binary::Mul,
+    Binary::And,
+    Binary::Or,
+    Binary::Xor,
+    Binary::ShiftLeft,
+    Binary::ShiftRight,
+    Binary::ArithmeticShiftRight,
+    Binary::Equal,
+    Binary::NotEqual,
+    Binary::LessSigned,
+    Binary::LessUnsigned,
+    Binary::LessEqualSigned,
+    Binary::LessEqualUnsigned,
+    Binary::DivideSigned,
+    Binary::RemainderSigned,
+    Binary::DivideUnsigned,
+    Binary::RemainderUnsigned,
+];
 
 impl Unary {
     pub fn code(self) -> u64
@@ -101,27 +86,7 @@ impl Binary {
     pub fn code(self) -> u64
         ensures { result ≡ binary_code self }
     {
-        match self {
-            Binary::Add => ADD,
-            Binary::Sub => SUB,
-            Binary::Mul => MUL,
-            Binary::And => AND,
-            Binary::Or => OR,
-            Binary::Xor => XOR,
-            Binary::ShiftLeft => SHIFT_LEFT,
-            Binary::ShiftRight => SHIFT_RIGHT,
-            Binary::ArithmeticShiftRight => ARITHMETIC_SHIFT_RIGHT,
-            Binary::Equal => EQUAL,
-            Binary::NotEqual => NOT_EQUAL,
-            Binary::LessSigned => LESS_SIGNED,
-            Binary::LessUnsigned => LESS_UNSIGNED,
-            Binary::LessEqualSigned => LESS_EQUAL_SIGNED,
-            Binary::LessEqualUnsigned => LESS_EQUAL_UNSIGNED,
-            Binary::DivideSigned => DIVIDE_SIGNED,
-            Binary::RemainderSigned => REMAINDER_SIGNED,
-            Binary::DivideUnsigned => DIVIDE_UNSIGNED,
-            Binary::RemainderUnsigned => REMAINDER_UNSIGNED,
-        }
+        self as u64
     }
 }
 
@@ -144,26 +109,11 @@ pub fn unary_of(code: u64, width: u16) -> Unary
 pub fn binary_of(code: u64) -> Binary
     ensures { result ≡ binary_of code }
 {
-    match code {
-        SUB => Binary::Sub,
-        MUL => Binary::Mul,
-        AND => Binary::And,
-        OR => Binary::Or,
-        XOR => Binary::Xor,
-        SHIFT_LEFT => Binary::ShiftLeft,
-        SHIFT_RIGHT => Binary::ShiftRight,
-        ARITHMETIC_SHIFT_RIGHT => Binary::ArithmeticShiftRight,
-        EQUAL => Binary::Equal,
-        NOT_EQUAL => Binary::NotEqual,
-        LESS_SIGNED => Binary::LessSigned,
-        LESS_UNSIGNED => Binary::LessUnsigned,
-        LESS_EQUAL_SIGNED => Binary::LessEqualSigned,
-        LESS_EQUAL_UNSIGNED => Binary::LessEqualUnsigned,
-        DIVIDE_SIGNED => Binary::DivideSigned,
-        REMAINDER_SIGNED => Binary::RemainderSigned,
-        DIVIDE_UNSIGNED => Binary::DivideUnsigned,
-        REMAINDER_UNSIGNED => Binary::RemainderUnsigned,
-        _ => Binary::Add,
+    let place = code.saturating_sub(BINARY) as usize;
+    if place < BINARIES.len() {
+        BINARIES[place]
+    } else {
+        Binary::Add
     }
 }
 
@@ -172,7 +122,7 @@ pub fn is_unary_code(code: u64, parameter: u64) -> bool
     ensures { result ≡ is_unary_code code parameter }
 {
     if code < PARAMETER {
-        if UNARY <= code { parameter == 0 } else { false }
+        UNARY <= code && parameter == 0
     } else {
         code < UNARY_END
     }
@@ -182,9 +132,5 @@ pub fn is_unary_code(code: u64, parameter: u64) -> bool
 pub fn is_binary_code(code: u64) -> bool
     ensures { result ≡ is_binary_code code }
 {
-    if BINARY <= code {
-        code < BINARY_END
-    } else {
-        false
-    }
+    BINARY <= code && code < BINARY_END
 }

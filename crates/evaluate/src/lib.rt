@@ -13,7 +13,7 @@ use answer::Refusal;
 use range::ScalarType;
 use word::Word;
 
-#[derive(Clone, Copy)]
+#[derive(Clone, Copy, PartialEq, Eq)]
 pub enum Unary {
     BoolNot,
     BitNot,
@@ -24,9 +24,10 @@ pub enum Unary {
     TrailingZeros(u16),
 }
 
-#[derive(Clone, Copy)]
+// Each with its code, from code::BINARY on.
+#[derive(Clone, Copy, PartialEq, Eq)]
 pub enum Binary {
-    Add,
+    Add = 20,
     Sub,
     Mul,
     And,
@@ -53,13 +54,11 @@ impl Unary {
         ensures { result ≡ unary_width self }
     {
         match self {
-            Unary::BoolNot => 0,
-            Unary::BitNot => 0,
-            Unary::Negate => 0,
-            Unary::Truncate(width) => width,
-            Unary::SignExtend(width) => width,
-            Unary::LeadingZeros(width) => width,
-            Unary::TrailingZeros(width) => width,
+            Unary::Truncate(width)
+            | Unary::SignExtend(width)
+            | Unary::LeadingZeros(width)
+            | Unary::TrailingZeros(width) => width,
+            _ => 0,
         }
     }
 }
@@ -69,8 +68,7 @@ pub fn type_width(ty: ScalarType) -> u16
     ensures { result ≡ type_width ty }
 {
     match ty {
-        ScalarType::Bool => 0,
         ScalarType::Bits(width) => width,
-        ScalarType::Integer => 0,
+        _ => 0,
     }
 }

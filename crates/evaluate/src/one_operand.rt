@@ -4,9 +4,9 @@ ghost use Rattle.word.specs.Value.{val, number_of};
 ghost use Rattle.evaluate.specs.Evaluate.{unary_value, sign_extended, leading_in, trailing_in};
 ghost use Rattle.evaluate.specs.Answer.{outcome_of, evaluate_unary};
 
-use crate::code::WIDEST;
-use crate::pattern::{bits_above, extended, from_bool, low_bits, pattern_of};
 use crate::Unary;
+use crate::code::WIDEST;
+use crate::pattern::{bits_above, extended, low_bits, pattern_of};
 use answer::Refusal;
 use word::Word;
 
@@ -14,7 +14,7 @@ fn sign_extend(value: Word, width: u16) -> Word
     ensures { val result ≡ sign_extended width (val value) }
 {
     if width == 0 {
-        return Word { lo: 0, hi: 0 };
+        return Word::ZERO;
     }
     extended(value, width).as_word()
 }
@@ -23,33 +23,24 @@ fn leading_zeros(value: Word, width: u16) -> Word
     ensures { val result ≡ leading_in width (val value) }
 {
     let zeros = low_bits(value, width).leading_zeros();
-    let above = bits_above(width);
-    let count = if above < zeros { zeros - above } else { 0 };
-    Word {
-        lo: count as u64,
-        hi: 0,
-    }
+    Word::from(u64::from(zeros.saturating_sub(bits_above(width))))
 }
 
 fn trailing_zeros(value: Word, width: u16) -> Word
     ensures { val result ≡ trailing_in width (val value) }
 {
     let zeros = low_bits(value, width).trailing_zeros();
-    let most = width as u32;
-    let count = if most < zeros { most } else { zeros };
-    Word {
-        lo: count as u64,
-        hi: 0,
-    }
+    Word::from(u64::from(zeros.min(u32::from(width))))
 }
 
 // What the operator gives, with any parameter.
+#[tactic(auto, unfolding(crate::specs::Evaluate::unary_value, word::specs::Value::val))]
 pub fn unary_value(operation: Unary, value: Word) -> Option<Word>
     ensures { number_of result ≡ unary_value operation (val value) }
 {
     match operation {
-        Unary::BoolNot => Some(from_bool(value.eq(Word { lo: 0, hi: 0 }))),
-        Unary::BitNot => Some(value.not()),
+        Unary::BoolNot => Some(Word::from(value == Word::ZERO)),
+        Unary::BitNot => Some(!value),
         Unary::Negate => pattern_of(value.as_signed().checked_neg()),
         Unary::Truncate(width) => Some(low_bits(value, width)),
         Unary::SignExtend(width) => Some(sign_extend(value, width)),
@@ -58,15 +49,12 @@ pub fn unary_value(operation: Unary, value: Word) -> Option<Word>
     }
 }
 
+#[tactic(auto, unfolding(crate::specs::Answer::evaluate_unary))]
 pub fn evaluate_unary(operation: Unary, value: Word) -> Result<Option<Word>, Refusal>
     ensures { outcome_of result ≡ evaluate_unary operation (val value) }
 {
     if WIDEST < operation.width() {
         return Err(Refusal::Width);
     }
-    let answer = unary_value(operation, value);
-    match answer {
-        Some(result) => Ok(Some(result)),
-        None => Ok(None),
-    }
+    Ok(unary_value(operation, value))
 }

@@ -1,7 +1,7 @@
 // Patterns of 128 bits: truth values, the low bits, and signed readings of a field.
 ghost use Rattle.std.specs.Prelude.{◌≡◌, min, ◌-◌, ◌%◌, ◌^◌};
 ghost use Rattle.word.specs.Value.{val, int_of, value_of, number_of};
-ghost use Rattle.word.specs.Option.{mapped, from_bool};
+ghost use Rattle.word.specs.Option.{mapped};
 ghost use Rattle.evaluate.specs.Evaluate.{extended, reduced};
 ghost use Rattle.evaluate.specs.I128 as i128;
 
@@ -9,39 +9,25 @@ use range::ScalarType;
 use range::typed::mask;
 use word::{Signed, Word};
 
-// Rust's u128::from of a bool.
-pub fn from_bool(truth: bool) -> Word
-    ensures { val result ≡ from_bool truth }
-{
-    if truth {
-        Word { lo: 1, hi: 0 }
-    } else {
-        Word { lo: 0, hi: 0 }
-    }
-}
-
 // The pattern of a signed answer.
 pub fn pattern_of(answer: Option<Signed>) -> Option<Word>
     ensures { number_of result ≡ mapped i128.as_u128 (value_of answer) }
 {
-    match answer {
-        Some(value) => Some(value.as_word()),
-        None => None,
-    }
+    Some(answer?.as_word())
 }
 
 // The low bits of a pattern: Rust's `value & mask(width)`.
 pub fn low_bits(value: Word, width: u16) -> Word
     ensures { val result ≡ val value % 2 ^ width }
 {
-    value.bitand(mask(width))
+    value & mask(width)
 }
 
 // How many of the 128 bits stand above a field of that width.
 pub(crate) fn bits_above(width: u16) -> u32
     ensures { result ≡ 128 - width }
 {
-    if width < 128 { (128 - width) as u32 } else { 0 }
+    128u32.saturating_sub(u32::from(width))
 }
 
 // A field of that width, read in two's complement.
@@ -49,21 +35,15 @@ pub fn extended(value: Word, width: u16) -> Signed
     ensures { int_of result ≡ extended width (val value) }
 {
     let above = bits_above(width);
-    let raised = value.unbounded_shl(above);
-    raised.as_signed().unbounded_shr(above)
+    value.unbounded_shl(above).as_signed().unbounded_shr(above)
 }
 
 // Rust's u32::try_from(count).unwrap_or(u32::MAX).
 pub fn to_u32(count: Word) -> u32
     ensures { result ≡ min (val count) (2 ^ 32 - 1) }
 {
-    let most = Word {
-        lo: 0xFFFF_FFFF,
-        hi: 0,
-    };
-    let clamped = count.min(most);
-    let lo = clamped.lo;
-    (lo % 0x1_0000_0000) as u32
+    let clamped = count.min(Word::from(0xFFFF_FFFF));
+    (clamped.lo % 0x1_0000_0000) as u32
 }
 
 // A value as one of its type: the low bits for Bits.
@@ -71,8 +51,7 @@ pub fn reduced(ty: ScalarType, value: Word) -> Word
     ensures { val result ≡ reduced ty (val value) }
 {
     match ty {
-        ScalarType::Bool => value,
         ScalarType::Bits(width) => low_bits(value, width),
-        ScalarType::Integer => value,
+        _ => value,
     }
 }

@@ -7,7 +7,11 @@ use lib.IntN.{pos, negsuc, neg_ℤ, ◌-ℤ◌}
 use lib.Bits.{bit_and, and_high}
 use lib.Pow.{pow_mono, suc_ones, ones_lt, ones_split, shl_exact}
 use Rattle.word.specs.Value.{signed}
-use Rattle.word.proofs.Integer.{signed_low}
+use Rattle.word.proofs.Integer.{signed_low, lt-or-ge}
+use Rattle.word.specs.Option.{only}
+use Rattle.range.specs.Interval.{Interval, filtered, inside_bits}
+use Rattle.std.proofs.Common.{⊎_elim, ◌&&◌, ltb, lt-ltb, le-ltb}
+use borrow.Author.Tests.{lt-leb}
 use Rattle.word.proofs.SignedHalves.{minus_one}
 
 -- 1 raised to a place in a half
@@ -44,3 +48,8 @@ mask-signed w h e =
 -- its complement
 pub mask_complement : (w : ℕ) → negsuc 0 -ℤ pos (2 ^ w - 1) ≡ neg_ℤ (pos (2 ^ w))
 mask_complement w = minus_one (2 ^ w - 1) ∙ ap (λ (n : ℕ). neg_ℤ (pos n)) (suc_ones w)
+
+-- below width 128 the values of Bits(w) are those from 0 to 2 ^ w - 1
+pub filtered_by : (w : ℕ) (a : Interval) → filtered w a ≡ only (ltb w 128 && inside_bits w a) a
+unfolding filtered
+filtered_by w a = ⊎_elim (λ (l : w < 128). rw (lt-ltb w 128 l, lt-leb 128 w l)) (λ (l : 128 ≤ w). rw (le-ltb w 128 l)) (lt-or-ge w 128)

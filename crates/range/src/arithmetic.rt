@@ -10,20 +10,18 @@ use word::{Signed, Word};
 pub fn between(low: Option<Signed>, high: Option<Signed>) -> Option<Range>
     ensures { interval_of result ≡ between (value_of low) (value_of high) }
 {
-    let Some(min) = low else {
-        return None;
-    };
-    let Some(max) = high else {
-        return None;
-    };
-    Some(Range { min: min, max: max })
+    Some(Range {
+        min: low?,
+        max: high?,
+    })
 }
 
 // The range from 0 up.
+#[tactic(auto, unfolding(word::specs::Value::int_of))]
 pub(crate) fn up_to(high: Option<Signed>) -> Option<Range>
     ensures { interval_of result ≡ between (Some (pos 0)) (value_of high) }
 {
-    between(Some(Signed { lo: 0, hi: 0 }), high)
+    between(Some(Signed::ZERO), high)
 }
 
 // A shift by a range's bound, at most 128.
@@ -31,107 +29,99 @@ fn clamped_amount(bound: Signed) -> u32
     ensures { result ≡ clamped (int_of bound) }
 {
     let pattern = bound.as_word();
-    if pattern.lt(Word { lo: 128, hi: 0 }) {
-        let lo = pattern.lo;
-        (lo % 256) as u32
+    if pattern < Word::from(128) {
+        (pattern.lo % 256) as u32
     } else {
         128
     }
 }
 
 // value * 2^amount, where it and 2^amount fit.
+#[tactic(auto, unfolding(crate::specs::Interval::shifted))]
 fn shifted(value: Signed, amount: Signed) -> Option<Signed>
     ensures { value_of result ≡ shifted (int_of value) (int_of amount) }
 {
     let bits = clamped_amount(amount);
     if bits < 127 {
-        let one = Word { lo: 1, hi: 0 };
-        value.checked_mul(one.unbounded_shl(bits).as_signed())
+        value.checked_mul(Word::ONE.unbounded_shl(bits).as_signed())
     } else {
         None
     }
 }
 
 impl Range {
+    #[tactic(auto, unfolding(crate::specs::Interval::add_interval))]
     pub fn add(self, other: Range) -> Option<Range>
         ensures { interval_of result ≡ add_interval (bounds_of self) (bounds_of other) }
     {
-        let low = self.min;
-        let high = self.max;
-        between(low.checked_add(other.min), high.checked_add(other.max))
+        between(
+            self.min.checked_add(other.min),
+            self.max.checked_add(other.max),
+        )
     }
 
+    #[tactic(auto, unfolding(crate::specs::Interval::sub_interval))]
     pub fn sub(self, other: Range) -> Option<Range>
         ensures { interval_of result ≡ sub_interval (bounds_of self) (bounds_of other) }
     {
-        let low = self.min;
-        let high = self.max;
-        between(low.checked_sub(other.max), high.checked_sub(other.min))
+        between(
+            self.min.checked_sub(other.max),
+            self.max.checked_sub(other.min),
+        )
     }
 
+    #[tactic(auto, unfolding(crate::specs::Interval::neg_interval))]
     pub fn negate(self) -> Option<Range>
         ensures { interval_of result ≡ neg_interval (bounds_of self) }
     {
-        let low = self.min;
-        let high = self.max;
-        between(high.checked_neg(), low.checked_neg())
+        between(self.max.checked_neg(), self.min.checked_neg())
     }
 
+    #[tactic(auto, unfolding(crate::specs::Interval::and_interval))]
     pub fn and(self, other: Range) -> Option<Range>
         ensures { interval_of result ≡ and_interval (bounds_of self) (bounds_of other) }
     {
         if self.is_nonnegative() && other.is_nonnegative() {
-            let high = self.max;
-            return up_to(Some(high.min(other.max)));
+            up_to(Some(self.max.min(other.max)))
+        } else {
+            None
         }
-        None
     }
 
+    #[tactic(auto, unfolding(crate::specs::Interval::udiv_interval, word::specs::Value::int_of))]
     pub fn divide_unsigned(self, other: Range) -> Option<Range>
         ensures { interval_of result ≡ udiv_interval (bounds_of self) (bounds_of other) }
     {
-        let zero = Signed { lo: 0, hi: 0 };
-        if self.is_nonnegative() && zero.lt(other.min) {
-            let high = self.max;
-            return up_to(high.checked_div(other.min));
+        if self.is_nonnegative() && Signed::ZERO < other.min {
+            up_to(self.max.checked_div(other.min))
+        } else {
+            None
         }
-        None
     }
 
+    #[tactic(auto, unfolding(crate::specs::Interval::urem_interval, word::specs::Value::int_of))]
     pub fn remainder_unsigned(self, other: Range) -> Option<Range>
         ensures { interval_of result ≡ urem_interval (bounds_of self) (bounds_of other) }
     {
-        let zero = Signed { lo: 0, hi: 0 };
-        if self.is_nonnegative() && zero.lt(other.min) {
-            let divisor = other.max;
-            let bound = divisor.checked_sub(Signed { lo: 1, hi: 0 });
-            let Some(most) = bound else {
-                return None;
-            };
-            let high = self.max;
-            return up_to(Some(high.min(most)));
+        if self.is_nonnegative() && Signed::ZERO < other.min {
+            let most = other.max.checked_sub(Signed::ONE)?;
+            up_to(Some(self.max.min(most)))
+        } else {
+            None
         }
-        None
     }
 
     // Every remainder is below the largest divisor in size, and no further from 0 than the dividend.
+    #[tactic(auto, unfolding(crate::specs::Interval::rem_interval))]
     pub fn remainder_signed(self, other: Range) -> Option<Range>
         ensures { interval_of result ≡ rem_interval (bounds_of self) (bounds_of other) }
     {
         if !self.is_divisible(other) {
             return None;
         }
-        let low = other.min;
-        let high = other.max;
-        let first = low.checked_abs();
-        let second = high.checked_abs();
-        let Some(a) = first else {
-            return None;
-        };
-        let Some(b) = second else {
-            return None;
-        };
-        Some(self.cut(a.max(b)))
+        let low = other.min.checked_abs()?;
+        let high = other.max.checked_abs()?;
+        Some(self.cut(low.max(high)))
     }
 
     // The part with less than this size, stretched to 0.
@@ -139,36 +129,36 @@ impl Range {
         requires { is_neg (int_of size) ≡ false }
         ensures { bounds_of result ≡ cut (bounds_of self) (int_of size) }
     {
-        let zero = Signed { lo: 0, hi: 0 };
-        let one = Signed { lo: 1, hi: 0 };
-        let low = self.min;
-        let high = self.max;
+        let least = Signed::ONE.wrapping_sub(size);
+        let most = size.wrapping_sub(Signed::ONE);
         Range {
-            min: low.max(one.wrapping_sub(size)).min(zero),
-            max: high.min(size.wrapping_sub(one)).max(zero),
+            min: self.min.max(least).min(Signed::ZERO),
+            max: self.max.min(most).max(Signed::ZERO),
         }
     }
 
+    #[tactic(auto, unfolding(crate::specs::Interval::shl_interval))]
     pub fn shift_left(self, other: Range) -> Option<Range>
         ensures { interval_of result ≡ shl_interval (bounds_of self) (bounds_of other) }
     {
         if self.is_nonnegative() && other.is_nonnegative() {
-            return between(shifted(self.min, other.min), shifted(self.max, other.max));
+            between(shifted(self.min, other.min), shifted(self.max, other.max))
+        } else {
+            None
         }
-        None
     }
 
+    #[tactic(auto, unfolding(crate::specs::Interval::shr_interval))]
     pub fn shift_right(self, other: Range) -> Option<Range>
         ensures { interval_of result ≡ shr_interval (bounds_of self) (bounds_of other) }
     {
         if self.is_nonnegative() && other.is_nonnegative() {
-            let low = self.min;
-            let high = self.max;
-            return Some(Range {
-                min: low.unbounded_shr(clamped_amount(other.max)),
-                max: high.unbounded_shr(clamped_amount(other.min)),
-            });
+            Some(Range {
+                min: self.min.unbounded_shr(clamped_amount(other.max)),
+                max: self.max.unbounded_shr(clamped_amount(other.min)),
+            })
+        } else {
+            None
         }
-        None
     }
 }

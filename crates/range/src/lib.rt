@@ -7,11 +7,11 @@ pub mod typed;
 
 ghost use Rattle.std.specs.Prelude.{◌≡◌};
 ghost use Rattle.word.specs.Value.{int_of};
-ghost use Rattle.range.specs.Interval.{bounds_of, point, within, same_interval, nonnegative};
+ghost use Rattle.range.specs.Interval.{bounds_of, point, within, nonnegative};
 
 use word::Signed;
 
-#[derive(Clone, Copy)]
+#[derive(Clone, Copy, PartialEq, Eq)]
 pub enum ScalarType {
     Bool,
     Bits(u16),
@@ -19,7 +19,7 @@ pub enum ScalarType {
 }
 
 // The integers from min to max. Bits are read as non-negative.
-#[derive(Clone, Copy)]
+#[derive(Clone, Copy, PartialEq, Eq)]
 pub struct Range {
     pub min: Signed,
     pub max: Signed,
@@ -38,27 +38,12 @@ impl Range {
     pub fn contains(self, value: Signed) -> bool
         ensures { result ≡ within (bounds_of self) (int_of value) }
     {
-        let min = self.min;
-        let max = self.max;
-        if min.le(value) { value.le(max) } else { false }
-    }
-
-    pub fn eq(self, other: Range) -> bool
-        ensures { result ≡ same_interval (bounds_of self) (bounds_of other) }
-    {
-        let min = self.min;
-        let max = self.max;
-        if min.eq(other.min) {
-            max.eq(other.max)
-        } else {
-            false
-        }
+        self.min <= value && value <= self.max
     }
 
     pub fn is_nonnegative(self) -> bool
         ensures { result ≡ nonnegative (bounds_of self) }
     {
-        let min = self.min;
-        !min.is_negative()
+        !self.min.is_negative()
     }
 }

@@ -18,7 +18,7 @@ pub fn mask(width: u16) -> Word
     }
     let ones = (1u64 << (width % 64)) - 1;
     if width & 64 == 0 {
-        Word { lo: ones, hi: 0 }
+        Word::from(ones)
     } else {
         Word {
             lo: u64::MAX,
@@ -33,7 +33,7 @@ fn bits_range(width: u16) -> Option<Range>
 {
     if width < 128 {
         Some(Range {
-            min: Signed { lo: 0, hi: 0 },
+            min: Signed::ZERO,
             max: mask(width).as_signed(),
         })
     } else {
@@ -41,13 +41,14 @@ fn bits_range(width: u16) -> Option<Range>
     }
 }
 
+#[tactic(auto, unfolding(word::specs::Value::int_of))]
 pub fn type_range(ty: ScalarType) -> Option<Range>
     ensures { interval_of result ≡ type_interval ty }
 {
     match ty {
         ScalarType::Bool => Some(Range {
-            min: Signed { lo: 0, hi: 0 },
-            max: Signed { lo: 1, hi: 0 },
+            min: Signed::ZERO,
+            max: Signed::ONE,
         }),
         ScalarType::Bits(width) => bits_range(width),
         ScalarType::Integer => None,
@@ -59,16 +60,7 @@ impl Range {
     pub fn is_in_bits(self, width: u16) -> bool
         ensures { result ≡ inside_bits width (bounds_of self) }
     {
-        let max = self.max;
-        if self.is_nonnegative() {
-            if width < 128 {
-                max.le(mask(width).as_signed())
-            } else {
-                true
-            }
-        } else {
-            false
-        }
+        self.is_nonnegative() && (128 <= width || self.max <= mask(width).as_signed())
     }
 
     // Does the range lie inside the type?
@@ -86,15 +78,11 @@ impl Range {
     pub fn filtered(self, width: u16) -> Option<Range>
         ensures { interval_of result ≡ filtered width (bounds_of self) }
     {
-        let max = self.max;
-        if width < 128 {
-            if self.is_nonnegative() {
-                if max.le(mask(width).as_signed()) {
-                    return Some(self);
-                }
-            }
+        if width < 128 && self.is_in_bits(width) {
+            Some(self)
+        } else {
+            None
         }
-        None
     }
 
     // What an Integer sign-extended from Bits(width) can be.
@@ -105,9 +93,6 @@ impl Range {
             return None;
         }
         let max = mask(width - 1).as_signed();
-        Some(Range {
-            min: max.not(),
-            max: max,
-        })
+        Some(Range { min: !max, max })
     }
 }

@@ -3,6 +3,7 @@ pub mod Halves
 pub mod SignedHalves
 pub mod Sums
 pub mod Orders
+pub mod Compared
 pub mod Counts
 pub mod Magnitudes
 pub mod Shifts

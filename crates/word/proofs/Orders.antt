@@ -56,7 +56,7 @@ le-not_less (negsuc a) (negsuc b) {t} e = not_less b a t e
 half_unique : (x y : ℤ) → SFits w64 x → SFits w64 y → of_z w64 x ≡ of_z w64 y → x ≡ y
 half_unique x y f g e = sym (to_z-of_z w64 x f) ∙ ap (to_z w64) e ∙ to_z-of_z w64 y g
 
-same_eq_z : (x : ℤ) → eq_z x x ≡ true
+pub same_eq_z : (x : ℤ) → eq_z x x ≡ true
 same_eq_z (pos a) = eq-eqb a a refl
 same_eq_z (negsuc a) = eq-eqb a a refl
 

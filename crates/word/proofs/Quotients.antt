@@ -1,13 +1,17 @@
 -- Long division, a bit at a time. The modulus is M: what is left to `omega` is linear. Assumes nothing.
 use Rattle.std.proofs.Common.{◌≡◌, ℕ, suc, ◌+◌, ◌-◌, ◌*◌, ◌/◌, ◌%◌, ◌^◌, ◌<◌, ◌≤◌, Bool, true, false, not, ltb, sym, refl, ap, ◌∙◌, ⊎_elim, lt_of_lt_of_le, mul-le-mul_right, mul_assoc, suc-mul, add-mul, lt_of_mul-lt-mul_right, one-mul, zero-add, zero-mul, mul_right_comm, div-mul-le_self, mul_left_comm, arith, pow_mono, pow-add, shr-shr, ltb-true, le-ltb, lt-ltb}
-use Rattle.std.specs.Prelude.{Some}
+use Rattle.std.specs.Prelude.{Option, None, Some}
+use Rattle.std.specs.Option.{MatchOption, IsSomeAnd}
 use borrow.Author.Tests.{not-true, not-false}
 use lib.Count.{count_leading_zeros}
 use lib.Bits.{bit_or}
 use lib.Arith.{digits_div, digits_mod}
 use lib.Pow.{mod-pow-add, mod-mod-pow, field, low, shr_le}
 use Rattle.word.specs.Option.{only, from_bool}
-use Rattle.word.specs.Division.{Divided, divided}
+use Rattle.word.specs.Division.{Divided, divided, divided_of, division_of}
+use Rattle.word.specs.Value.{val, number_of}
+use Rattle.word.specs.declared.Word.{Word}
+use Rattle.word.specs.declared.Division.{Division}
 use Rattle.word.proofs.Magnitudes.{answered, answered_test}
 use Rattle.word.proofs.Integer.{lt-or-ge}
 
@@ -150,6 +154,15 @@ divided_is n d q r s e f g = let u = unique e f in λ i. record { quotient = u.0
 pub division_given : (t : Bool) (n d : ℕ) (x : Divided) → Some x ≡ only t (divided n d) → (t ≡ true) × (x.quotient ≡ n / d) × (x.remainder ≡ n % d)
 unfolding divided
 division_given t n d x e = let a = answered t x (divided n d) e in (answered_test t x (divided n d) e, (λ i. (a i).quotient), (λ i. (a i).remainder))
+
+-- a part of a division that is there, as `map` takes it by a closure that relates x and w by Q
+pub part_given : {Q : Division → Word → Type 0} (f : Divided → ℕ) → ((x : Division) (w : Word) → Q x w → val w ≡ f (divided_of x)) → (t : Bool) (v : Divided) (o : Option Division) (r : Option Word)
+    → division_of o ≡ only t v → MatchOption o (r ≡ None) (λ x. IsSomeAnd r (Q x)) → number_of r ≡ only t (f v)
+part_given f part true v None r e h = cc
+part_given f part false v None r e h = ap number_of h
+part_given f part false v (Some x) r e h = cc
+part_given f part true v (Some x) None e h = absurd h
+part_given f part true v (Some x) (Some w) e h = ap Some (part x w h ∙ ap f (answered true (divided_of x) v e))
 
 -- ---- what `is_zero` says of a divisor n
 

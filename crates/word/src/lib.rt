@@ -30,4 +30,3 @@ pub struct Division {
     pub remainder: Word,
     pub steps: u32,
 }
-

@@ -1,93 +1,97 @@
-// Order and equality.
-ghost use Rattle.std.specs.Prelude.{◌≡◌, min, max, ◌==◌, int_le, int_lt, nat_le, nat_lt};
-ghost use Rattle.word.specs.Value.{val, int_of, eq_z, min_z, max_z};
+// Equality and order: those of the numbers that words stand for.
+ghost use Rattle.std.specs.Prelude.{◌≡◌, ◌+◌, ◌*◌, ◌^◌, nat_eq};
+ghost use Rattle.std.specs.Ordering.{as_partial_cmp, int_cmp, int_eq, nat_cmp, on};
+ghost use Rattle.std.specs.Cmp.{partial_order_from_own_ties};
+ghost use Rattle.std.specs.Cmp.Rules.{comparing};
+ghost use Rattle.std.proofs.Common.{rules};
+ghost use Rattle.word.specs.Value.{val, int_of};
 
 use crate::{Signed, Word};
+use std::cmp::Ordering;
 
 impl Word {
-    pub fn eq(self, rhs: Word) -> bool
-        ensures { result ≡ (val self == val rhs) }
+    // The high half and the low one, which compare as the number does.
+    fn halves(self) -> (u64, u64)
+        ensures { val self ≡ result.0 * 2 ^ 64 + result.1 }
     {
-        if self.hi == rhs.hi {
-            if self.lo == rhs.lo { true } else { false }
-        } else {
-            false
-        }
-    }
-
-    pub fn lt(self, rhs: Word) -> bool
-        ensures { result ≡ nat_lt (val self) (val rhs) }
-    {
-        if self.hi < rhs.hi {
-            return true;
-        }
-        if rhs.hi < self.hi {
-            return false;
-        }
-        if self.lo < rhs.lo { true } else { false }
-    }
-
-    pub fn le(self, rhs: Word) -> bool
-        ensures { result ≡ nat_le (val self) (val rhs) }
-    {
-        if rhs.lt(self) { false } else { true }
-    }
-
-    pub fn min(self, rhs: Word) -> Word
-        ensures { val result ≡ min (val self) (val rhs) }
-    {
-        if rhs.lt(self) { rhs } else { self }
-    }
-
-    pub fn max(self, rhs: Word) -> Word
-        ensures { val result ≡ max (val self) (val rhs) }
-    {
-        if rhs.lt(self) { self } else { rhs }
+        (self.hi, self.lo)
     }
 }
 
-impl Signed {
-    pub fn eq(self, rhs: Signed) -> bool
-        ensures { result ≡ eq_z (int_of self) (int_of rhs) }
-    {
-        let high = self.hi;
-        let other = rhs.hi;
-        if high == other {
-            if self.lo == rhs.lo { true } else { false }
-        } else {
-            false
-        }
-    }
+impl PartialEq for Word {
+    ghost eq = { on val nat_eq };
 
-    pub fn lt(self, rhs: Signed) -> bool
-        ensures { result ≡ int_lt (int_of self) (int_of rhs) }
-    {
-        let left = self.hi;
-        let right = rhs.hi;
-        if left < right {
-            return true;
-        }
-        if right < left {
-            return false;
-        }
-        if self.lo < rhs.lo { true } else { false }
-    }
+    ghost laws = { Prim.search (comparing, rules) };
 
-    pub fn le(self, rhs: Signed) -> bool
-        ensures { result ≡ int_le (int_of self) (int_of rhs) }
-    {
-        if rhs.lt(self) { false } else { true }
+    fn eq(&self, other: &Word) -> bool {
+        self.halves() == other.halves()
     }
+}
 
-    pub fn min(self, rhs: Signed) -> Signed
-        ensures { int_of result ≡ min_z (int_of self) (int_of rhs) }
-    {
-        if rhs.lt(self) { rhs } else { self }
+impl Eq for Word {
+    ghost laws = { Prim.search (comparing, rules) };
+}
+
+impl Ord for Word {
+    ghost cmp = { on val nat_cmp };
+
+    ghost total = { Prim.search (comparing, rules) };
+
+    ghost matches_partial_cmp = { Prim.search (comparing, rules) };
+
+    ghost matches_eq = { Prim.search (comparing, rules) };
+
+    fn cmp(&self, other: &Word) -> Ordering {
+        self.halves().cmp(&other.halves())
     }
+}
 
-    pub fn max(self, rhs: Signed) -> Signed
-        ensures { int_of result ≡ max_z (int_of self) (int_of rhs) }
-    {
-        if rhs.lt(self) { self } else { rhs }
+impl PartialOrd for Word {
+    ghost partial_cmp = { as_partial_cmp (on val nat_cmp) };
+
+    ghost laws = { partial_order_from_own_ties (Prim.search (comparing, rules)) (Prim.search (comparing, rules)) };
+
+    fn partial_cmp(&self, other: &Word) -> Option<Ordering> {
+        Some(self.cmp(other))
+    }
+}
+
+impl PartialEq for Signed {
+    ghost eq = { on int_of int_eq };
+
+    ghost laws = { Prim.search (comparing, rules) };
+
+    fn eq(&self, other: &Signed) -> bool {
+        let (left, right) = (*self, *other);
+        (left.hi, left.lo) == (right.hi, right.lo)
+    }
+}
+
+impl Eq for Signed {
+    ghost laws = { Prim.search (comparing, rules) };
+}
+
+impl Ord for Signed {
+    ghost cmp = { on int_of int_cmp };
+
+    ghost total = { Prim.search (comparing, rules) };
+
+    ghost matches_partial_cmp = { Prim.search (comparing, rules) };
+
+    ghost matches_eq = { Prim.search (comparing, rules) };
+
+    fn cmp(&self, other: &Signed) -> Ordering {
+        let (left, right) = (*self, *other);
+        (left.hi, left.lo).cmp(&(right.hi, right.lo))
+    }
+}
+
+impl PartialOrd for Signed {
+    ghost partial_cmp = { as_partial_cmp (on int_of int_cmp) };
+
+    ghost laws = { partial_order_from_own_ties (Prim.search (comparing, rules)) (Prim.search (comparing, rules)) };
+
+    fn partial_cmp(&self, other: &Signed) -> Option<Ordering> {
+        Some(self.cmp(other))
     }
 }

@@ -19,7 +19,7 @@ fn product_of_halves(u: u64, v: u64) -> Word
     let w1 = t % 0x1_0000_0000 + u0 * v1;
     let lo = (w1 % 0x1_0000_0000) * 0x1_0000_0000 + w0 % 0x1_0000_0000;
     let hi = u1 * v1 + t / 0x1_0000_0000 + w1 / 0x1_0000_0000;
-    Word { lo: lo, hi: hi }
+    Word { lo, hi }
 }
 
 // high * 2^64 + low, where it fits.
@@ -29,22 +29,18 @@ fn raised(high: Word, low: Word) -> Option<Word>
     if high.hi != 0 {
         return None;
     }
-    let hi = std::num::wrapping_add_u64(low.hi, high.lo);
+    let hi = low.hi.wrapping_add(high.lo);
     if hi < low.hi {
         return None;
     }
-    Some(Word { lo: low.lo, hi: hi })
+    Some(Word { lo: low.lo, hi })
 }
 
 // Is one of the two below 0, and the other not?
 pub(crate) fn signs_differ(left: Signed, right: Signed) -> bool
     ensures { result ≡ differ (is_neg (int_of left)) (is_neg (int_of right)) }
 {
-    if left.is_negative() {
-        !right.is_negative()
-    } else {
-        right.is_negative()
-    }
+    left.is_negative() != right.is_negative()
 }
 
 // The integer with this sign and magnitude, where it fits.
@@ -56,13 +52,13 @@ pub(crate) fn signed_of(negative: bool, magnitude: Word) -> Option<Signed>
         hi: 0x8000_0000_0000_0000,
     };
     if negative {
-        if limit.lt(magnitude) {
+        if limit < magnitude {
             None
         } else {
             Some(magnitude.wrapping_neg().as_signed())
         }
     } else {
-        if magnitude.lt(limit) {
+        if magnitude < limit {
             Some(magnitude.as_signed())
         } else {
             None
@@ -77,10 +73,10 @@ impl Word {
         let low = product_of_halves(self.lo, rhs.lo);
         let left = product_of_halves(self.lo, rhs.hi);
         let right = product_of_halves(self.hi, rhs.lo);
-        let cross = std::num::wrapping_add_u64(left.lo, right.lo);
+        let cross = left.lo.wrapping_add(right.lo);
         Word {
             lo: low.lo,
-            hi: std::num::wrapping_add_u64(low.hi, cross),
+            hi: low.hi.wrapping_add(cross),
         }
     }
 
@@ -111,21 +107,13 @@ impl Signed {
     pub fn wrapping_mul(self, rhs: Signed) -> Signed
         ensures { int_of result ≡ wrapped (int_of self *ℤ int_of rhs) }
     {
-        let left = self.as_word();
-        let right = rhs.as_word();
-        left.wrapping_mul(right).as_signed()
+        self.as_word().wrapping_mul(rhs.as_word()).as_signed()
     }
 
     pub fn checked_mul(self, rhs: Signed) -> Option<Signed>
         ensures { value_of result ≡ fitted (int_of self *ℤ int_of rhs) }
     {
-        let negative = signs_differ(self, rhs);
-        let left = self.unsigned_abs();
-        let right = rhs.unsigned_abs();
-        let product = left.checked_mul(right);
-        match product {
-            Some(magnitude) => signed_of(negative, magnitude),
-            None => None,
-        }
+        let magnitude = self.unsigned_abs().checked_mul(rhs.unsigned_abs())?;
+        signed_of(signs_differ(self, rhs), magnitude)
     }
 }

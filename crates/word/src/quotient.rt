@@ -27,7 +27,7 @@ struct Part {
 fn below(a: u64, b: u64) -> u64
     ensures { result ≡ from_bool (nat_lt a b) }
 {
-    if a < b { 1 } else { 0 }
+    u64::from(a < b)
 }
 
 // Without a branch, since the bits of a quotient follow no pattern.
@@ -35,13 +35,13 @@ fn overflowing_sub(a: Word, b: Word) -> Difference
     ensures { (val result.value + val b ≡ val a + result.borrow * 2 ^ 128) × (result.borrow < 2) }
 {
     let low = below(a.lo, b.lo);
-    let high = std::num::wrapping_sub_u64(a.hi, b.hi);
+    let high = a.hi.wrapping_sub(b.hi);
     let value = Word {
-        lo: std::num::wrapping_sub_u64(a.lo, b.lo),
-        hi: std::num::wrapping_sub_u64(high, low),
+        lo: a.lo.wrapping_sub(b.lo),
+        hi: high.wrapping_sub(low),
     };
     Difference {
-        value: value,
+        value,
         borrow: below(a.hi, b.hi) | below(high, low),
     }
 }
@@ -51,8 +51,7 @@ fn double_add(w: Word, bit: u64) -> Word
     requires { bit < 2 }
     ensures { val result ≡ (2 * val w + bit) % 2 ^ 128 }
 {
-    let lo = w.lo;
-    let hi = w.hi;
+    let Word { lo, hi } = w;
     Word {
         lo: (lo % 0x8000_0000_0000_0000) * 2 + bit,
         hi: (hi % 0x8000_0000_0000_0000) * 2 + lo / 0x8000_0000_0000_0000,
@@ -79,14 +78,12 @@ fn divide_half(half: u64, bits: u32, remainder: Word, divisor: Word) -> Part
     requires { (bits ≤ 64) × (half < 2 ^ bits) × (val remainder < val divisor) × (val remainder * 2 ^ bits + half < 2 ^ 128) }
     ensures { (val remainder * 2 ^ bits + half ≡ result.quotient * val divisor + val result.remainder) × (val result.remainder < val divisor) × (result.steps ≡ bits) }
 {
-    let mut left = bits;
     let mut part = Part {
         quotient: 0,
-        remainder: remainder,
+        remainder,
         steps: 0,
     };
-    while 0 < left {
-        left -= 1;
+    for left in (0..bits).rev() {
         part = division_step(part, (half >> left) % 2, divisor);
     }
     part
@@ -96,7 +93,7 @@ fn divide_half(half: u64, bits: u32, remainder: Word, divisor: Word) -> Part
 fn bits_of(half: u64) -> u32
     ensures { result ≡ 64 - count_leading_zeros 64 half }
 {
-    64 - u64::leading_zeros(half)
+    64 - half.leading_zeros()
 }
 
 // Half by half: the high one, where it is not 0, then the low one.
@@ -104,41 +101,32 @@ fn divide_halves(dividend: Word, divisor: Word) -> Division
     requires { 0 < val divisor }
     ensures { divided_of result ≡ divided (val dividend) (val divisor) }
 {
-    let zero = Word { lo: 0, hi: 0 };
     if dividend.hi == 0 {
-        let part = divide_half(dividend.lo, bits_of(dividend.lo), zero, divisor);
-        let remainder = part.remainder;
+        let part = divide_half(dividend.lo, bits_of(dividend.lo), Word::ZERO, divisor);
         return Division {
-            quotient: Word {
-                lo: part.quotient,
-                hi: 0,
-            },
-            remainder: remainder,
+            quotient: Word::from(part.quotient),
+            remainder: part.remainder,
             steps: part.steps,
         };
     }
-    let high = divide_half(dividend.hi, bits_of(dividend.hi), zero, divisor);
+    let high = divide_half(dividend.hi, bits_of(dividend.hi), Word::ZERO, divisor);
     let low = divide_half(dividend.lo, 64, high.remainder, divisor);
-    let remainder = low.remainder;
     Division {
         quotient: Word {
             lo: low.quotient,
             hi: high.quotient,
         },
-        remainder: remainder,
+        remainder: low.remainder,
         steps: high.steps + low.steps,
     }
 }
 
 impl Word {
+    #[tactic(auto, unfolding(crate::specs::Value::val))]
     pub fn is_zero(self) -> bool
         ensures { result ≡ not (nat_lt 0 (val self)) }
     {
-        if self.hi == 0 {
-            if self.lo == 0 { true } else { false }
-        } else {
-            false
-        }
+        self == Word::ZERO
     }
 
     // Quotient, remainder and steps, one for each bit of the dividend from its highest set one down; none for a divisor of 0.
@@ -154,25 +142,13 @@ impl Word {
     pub fn checked_div(self, rhs: Word) -> Option<Word>
         ensures { number_of result ≡ only (nat_lt 0 (val rhs)) (val self / val rhs) }
     {
-        match self.divide(rhs) {
-            Some(d) => {
-                let quotient = d.quotient;
-                Some(quotient)
-            }
-            None => None,
-        }
+        self.divide(rhs).map(|d| d.quotient)
     }
 
     pub fn checked_rem(self, rhs: Word) -> Option<Word>
         ensures { number_of result ≡ only (nat_lt 0 (val rhs)) (val self % val rhs) }
     {
-        match self.divide(rhs) {
-            Some(d) => {
-                let remainder = d.remainder;
-                Some(remainder)
-            }
-            None => None,
-        }
+        self.divide(rhs).map(|d| d.remainder)
     }
 }
 
@@ -180,24 +156,15 @@ impl Signed {
     pub fn checked_div(self, rhs: Signed) -> Option<Signed>
         ensures { value_of result ≡ quotient (int_of self) (int_of rhs) }
     {
-        let divided = self.unsigned_abs().divide(rhs.unsigned_abs());
-        match divided {
-            Some(d) => signed_of(signs_differ(self, rhs), d.quotient),
-            None => None,
-        }
+        let d = self.unsigned_abs().divide(rhs.unsigned_abs())?;
+        signed_of(signs_differ(self, rhs), d.quotient)
     }
 
     pub fn checked_rem(self, rhs: Signed) -> Option<Signed>
         ensures { value_of result ≡ remainder (int_of self) (int_of rhs) }
     {
-        let divided = self.unsigned_abs().divide(rhs.unsigned_abs());
-        let Some(d) = divided else {
-            return None;
-        };
-        let quotient = signed_of(signs_differ(self, rhs), d.quotient);
-        match quotient {
-            Some(_) => signed_of(self.is_negative(), d.remainder),
-            None => None,
-        }
+        let d = self.unsigned_abs().divide(rhs.unsigned_abs())?;
+        signed_of(signs_differ(self, rhs), d.quotient)?;
+        signed_of(self.is_negative(), d.remainder)
     }
 }

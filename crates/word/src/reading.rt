@@ -1,61 +1,62 @@
-// One pattern of 128 bits, read unsigned and signed.
+// One pattern of 128 bits, read unsigned and signed, and words of numbers.
 ghost use Rattle.std.specs.Prelude.{◌≡◌, unsigned_abs};
-ghost use Rattle.std.specs.Int.{w64};
-ghost use Rattle.std.proofs.Common.{of_z, to_z};
 ghost use Rattle.word.specs.Value.{val, int_of, residue, signed, is_neg};
+ghost use Rattle.word.specs.Option.{from_bool};
 
 use crate::{Signed, Word};
 
-// The bits of a signed half.
-fn half_bits(h: i64) -> u64
-    ensures { result ≡ of_z w64 h }
-{
-    if h < 0 {
-        u64::MAX - ((-1 - h) as u64)
-    } else {
-        h as u64
+impl From<u64> for Word {
+    ghost from_gives = { λ n w. val w ≡ n };
+
+    #[tactic(auto, using(crate::proofs::Products::val_low))]
+    fn from(n: u64) -> Word {
+        Word { lo: n, hi: 0 }
     }
 }
 
-// The signed half that has these bits.
-fn half_of(bits: u64) -> i64
-    ensures { result ≡ to_z w64 bits }
-{
-    if bits < 0x8000_0000_0000_0000 {
-        bits as i64
-    } else {
-        -1 - ((u64::MAX - bits) as i64)
+impl From<bool> for Word {
+    ghost from_gives = { λ t w. val w ≡ from_bool t };
+
+    fn from(t: bool) -> Word {
+        Word::from(u64::from(t))
     }
 }
 
 impl Word {
+    pub const ZERO: Word = Word { lo: 0, hi: 0 };
+
+    pub const ONE: Word = Word { lo: 1, hi: 0 };
+
     // Rust's `as i128`.
     pub fn as_signed(self) -> Signed
         ensures { int_of result ≡ signed 128 (val self) }
     {
         Signed {
             lo: self.lo,
-            hi: half_of(self.hi),
+            hi: self.hi.cast_signed(),
         }
     }
 }
 
 impl Signed {
+    pub const ZERO: Signed = Signed { lo: 0, hi: 0 };
+
+    pub const ONE: Signed = Signed { lo: 1, hi: 0 };
+
     // Rust's `as u128`.
     pub fn as_word(self) -> Word
         ensures { val result ≡ residue 128 (int_of self) }
     {
         Word {
             lo: self.lo,
-            hi: half_bits(self.hi),
+            hi: self.hi.cast_unsigned(),
         }
     }
 
     pub fn is_negative(self) -> bool
         ensures { result ≡ is_neg (int_of self) }
     {
-        let hi = self.hi;
-        if hi < 0 { true } else { false }
+        self.hi < 0
     }
 
     pub fn unsigned_abs(self) -> Word

@@ -11,10 +11,9 @@ impl Word {
     pub fn unbounded_shl(self, amount: u32) -> Word
         ensures { val result ≡ val self * 2 ^ amount % 2 ^ 128 }
     {
-        let lo = self.lo;
-        let hi = self.hi;
+        let Word { lo, hi } = self;
         if amount == 0 {
-            return Word { lo: lo, hi: hi };
+            return Word { lo, hi };
         }
         if amount < 64 {
             return Word {
@@ -28,17 +27,16 @@ impl Word {
                 hi: lo << (amount - 64),
             };
         }
-        Word { lo: 0, hi: 0 }
+        Word::ZERO
     }
 
     // The bits past the bottom are lost; from 128 on all of them.
     pub fn unbounded_shr(self, amount: u32) -> Word
         ensures { val result ≡ val self / 2 ^ amount }
     {
-        let lo = self.lo;
-        let hi = self.hi;
+        let Word { lo, hi } = self;
         if amount == 0 {
-            return Word { lo: lo, hi: hi };
+            return Word { lo, hi };
         }
         if amount < 64 {
             return Word {
@@ -52,7 +50,7 @@ impl Word {
                 hi: 0,
             };
         }
-        Word { lo: 0, hi: 0 }
+        Word::ZERO
     }
 
     pub fn checked_shl(self, amount: u32) -> Option<Word>
@@ -79,8 +77,7 @@ impl Word {
     pub fn bit(self, index: u32) -> u64
         ensures { result ≡ val self / 2 ^ index % 2 }
     {
-        let shifted = self.unbounded_shr(index);
-        shifted.lo % 2
+        self.unbounded_shr(index).lo % 2
     }
 }
 
@@ -91,7 +88,7 @@ impl Signed {
     {
         let pattern = self.as_word();
         if self.is_negative() {
-            pattern.not().unbounded_shr(amount).not().as_signed()
+            (!(!pattern).unbounded_shr(amount)).as_signed()
         } else {
             pattern.unbounded_shr(amount).as_signed()
         }

@@ -9,38 +9,37 @@ impl Word {
     pub fn wrapping_add(self, rhs: Word) -> Word
         ensures { val result ≡ (val self + val rhs) % 2 ^ 128 }
     {
-        let lo = std::num::wrapping_add_u64(self.lo, rhs.lo);
-        let hi = std::num::wrapping_add_u64(self.hi, rhs.hi);
+        let lo = self.lo.wrapping_add(rhs.lo);
+        let hi = self.hi.wrapping_add(rhs.hi);
         if lo < self.lo {
             Word {
-                lo: lo,
-                hi: std::num::wrapping_add_u64(hi, 1),
+                lo,
+                hi: hi.wrapping_add(1),
             }
         } else {
-            Word { lo: lo, hi: hi }
+            Word { lo, hi }
         }
     }
 
     pub fn wrapping_sub(self, rhs: Word) -> Word
         ensures { val result ≡ (val self + (2 ^ 128 - val rhs)) % 2 ^ 128 }
     {
-        let lo = std::num::wrapping_sub_u64(self.lo, rhs.lo);
-        let hi = std::num::wrapping_sub_u64(self.hi, rhs.hi);
+        let lo = self.lo.wrapping_sub(rhs.lo);
+        let hi = self.hi.wrapping_sub(rhs.hi);
         if self.lo < rhs.lo {
             Word {
-                lo: lo,
-                hi: std::num::wrapping_sub_u64(hi, 1),
+                lo,
+                hi: hi.wrapping_sub(1),
             }
         } else {
-            Word { lo: lo, hi: hi }
+            Word { lo, hi }
         }
     }
 
     pub fn wrapping_neg(self) -> Word
         ensures { val result ≡ (2 ^ 128 - val self) % 2 ^ 128 }
     {
-        let zero = Word { lo: 0, hi: 0 };
-        zero.wrapping_sub(self)
+        Word::ZERO.wrapping_sub(self)
     }
 }
 
@@ -49,27 +48,10 @@ impl Word {
 fn unless_wrapped(res: Signed, left: bool, right: bool) -> Option<Signed>
     ensures { value_of result ≡ unless_wrapped left right (int_of res) }
 {
-    let sign = res.is_negative();
-    if left {
-        if right {
-            if sign {
-                Some(res)
-            } else {
-                None
-            }
-        } else {
-            Some(res)
-        }
+    if left == right && left != res.is_negative() {
+        None
     } else {
-        if right {
-            Some(res)
-        } else {
-            if sign {
-                None
-            } else {
-                Some(res)
-            }
-        }
+        Some(res)
     }
 }
 
@@ -77,38 +59,39 @@ impl Signed {
     pub fn wrapping_add(self, rhs: Signed) -> Signed
         ensures { int_of result ≡ wrapped (int_of self +ℤ int_of rhs) }
     {
-        let left = self.as_word();
-        let right = rhs.as_word();
-        left.wrapping_add(right).as_signed()
+        self.as_word().wrapping_add(rhs.as_word()).as_signed()
     }
 
     pub fn wrapping_sub(self, rhs: Signed) -> Signed
         ensures { int_of result ≡ wrapped (int_of self -ℤ int_of rhs) }
     {
-        let left = self.as_word();
-        let right = rhs.as_word();
-        left.wrapping_sub(right).as_signed()
+        self.as_word().wrapping_sub(rhs.as_word()).as_signed()
     }
 
     pub fn checked_add(self, rhs: Signed) -> Option<Signed>
         ensures { value_of result ≡ fitted (int_of self +ℤ int_of rhs) }
     {
-        let sum = self.wrapping_add(rhs);
-        unless_wrapped(sum, self.is_negative(), rhs.is_negative())
+        unless_wrapped(
+            self.wrapping_add(rhs),
+            self.is_negative(),
+            rhs.is_negative(),
+        )
     }
 
     pub fn checked_sub(self, rhs: Signed) -> Option<Signed>
         ensures { value_of result ≡ fitted (int_of self -ℤ int_of rhs) }
     {
-        let difference = self.wrapping_sub(rhs);
-        unless_wrapped(difference, self.is_negative(), !rhs.is_negative())
+        unless_wrapped(
+            self.wrapping_sub(rhs),
+            self.is_negative(),
+            !rhs.is_negative(),
+        )
     }
 
     pub fn checked_neg(self) -> Option<Signed>
         ensures { value_of result ≡ fitted (neg_ℤ (int_of self)) }
     {
-        let zero = Signed { lo: 0, hi: 0 };
-        zero.checked_sub(self)
+        Signed::ZERO.checked_sub(self)
     }
 
     pub fn checked_abs(self) -> Option<Signed>

@@ -1,6 +1,7 @@
 -- `Range::divide_signed` meets its contract: the quotients at the corners, of which two decide between rising ranges.
 use mathlib.Core.Path.{sym, ◌∙◌}
 use Rattle.word.specs.Value.{int_of}
+use Rattle.word.proofs.Compared.{eq_signed_z}
 use Rattle.word.proofs.Orders.{same_is}
 use Rattle.range.specs.Interval.{quot_interval}
 use Rattle.range.proofs.Rules.{rising_quotients}
@@ -32,7 +33,7 @@ returns-then-eq c =
       second.ensures,
       ← d.ensures,
       c.if-not-is_divisible.false,
-      ← same_is (int_of a.other.min) (int_of a.other.max) (sym c.eq.ensures ∙ c.if-eq.true),
+      ← same_is (int_of a.other.min) (int_of a.other.max) (sym (c.eq.ensures ∙ eq_signed_z a.other.min a.other.max) ∙ c.if-eq.true),
     )
 
 pub returns : goal.returns

@@ -3,7 +3,7 @@ use Rattle.range.proofs.Types.{one_raised, low_ones, high_ones}
 use Rattle.word.specs.Value.{val}
 use Prim.Native.Nat.{ℕ, ◌%◌, ◌≤◌}
 use mathlib.Core.Path.{sym, subst, ◌∙◌}
-use native.Mathlib.Nat.{min-eq_right, zero-add}
+use native.Mathlib.Nat.{min-eq_right}
 use lib.Pow.{pow_pos}
 use Rattle.range.proofs.typed.mask.Goals as goal
 
@@ -16,7 +16,7 @@ overflow_sub-ones c = subst (λ (n : ℕ). 1 ≤ n) (sym (one_raised c.args.widt
 
 pub returns-then-width-eq0 : goal.returns-then-width-eq0
 unfolding val
-returns-then-width-eq0 c = zero-add _ ∙ low_ones c.args.width c.if-width-ge128.false c.if-width-eq0.true
+returns-then-width-eq0 c = c.from.ensures ∙ low_ones c.args.width c.if-width-ge128.false c.if-width-eq0.true
 
 pub returns-else-width-eq0 : goal.returns-else-width-eq0
 unfolding val

@@ -10,5 +10,5 @@ unfolding val
 returns c =
     let s = c.args.self in
     let f : SFits w64 s.hi = search rules in
-    ap (λ (h : ℕ). h * 2 ^ 64 + s.lo) (c.half_bits.ensures ∙ ap (of_z w64) (to_z-of_z w64 s.hi f))
+    ap (λ (h : ℕ). h * 2 ^ 64 + s.lo) (c.cast_unsigned.ensures ∙ ap (of_z w64) (to_z-of_z w64 s.hi f))
     ∙ int_bits s (record { half = f; low = search rules })

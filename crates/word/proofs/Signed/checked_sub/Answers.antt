@@ -9,6 +9,6 @@ use Rattle.word.proofs.Signed.checked_sub.Goals as goal
 pub returns : goal.returns
 returns c = let g = c.args in
     c.unless_wrapped.ensures
-    ∙ (λ i. unless_wrapped (c.is_negative.ensures i) (not (c.is_negative-2.ensures i)) (c.wrapping_sub-difference.ensures i))
+    ∙ (λ i. unless_wrapped (c.is_negative.ensures i) (not (c.is_negative-2.ensures i)) (c.wrapping_sub.ensures i))
     ∙ checked_sub (int_of g.self) (int_of g.rhs) (int_mag g.self (record { half = search rules; low = search rules }))
     (int_mag g.rhs (record { half = search rules; low = search rules }))

@@ -10,5 +10,5 @@ returns c =
     let g = c.args in
     c.as_signed.ensures
     ∙ ap (signed 128)
-    (c.wrapping_mul.ensures ∙ (λ i. c.as_word-left.ensures i * c.as_word-right.ensures i % 2 ^ 128)
+    (c.wrapping_mul.ensures ∙ (λ i. c.as_word.ensures i * c.as_word-2.ensures i % 2 ^ 128)
     ∙ residue-mul 128 (int_of g.self) (int_of g.rhs))

@@ -5,4 +5,4 @@ use Rattle.word.proofs.Word.bit.Goals as goal
 
 pub returns : goal.returns
 unfolding val
-returns c = rw (← c.unbounded_shr-shifted.ensures) (omega arith)
+returns c = rw (← c.unbounded_shr.ensures) (omega arith)

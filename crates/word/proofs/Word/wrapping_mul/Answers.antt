@@ -13,6 +13,6 @@ returns c =
     let p = c.product_of_halves-low in
     let x = c.product_of_halves-left in
     let y = c.product_of_halves-right in
-    rw (c.wrapping_add_u64.ensures.value, c.wrapping_add_u64-cross.ensures.value, add-mod-mod)
+    rw (add-mod-mod)
     (sym (low_product 64 a.hi a.lo b.hi b.lo p.result.hi p.result.lo x.result.hi x.result.lo y.result.hi y.result.lo
     (search rules) p.ensures x.ensures y.ensures))

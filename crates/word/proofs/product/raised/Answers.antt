@@ -1,5 +1,5 @@
 -- `raised` meets its contract: the sum fits where `high` has a low half only and the high halves' sum does not wrap. Assumes nothing.
-use Rattle.std.proofs.Common.{◌≡◌, ◌+◌, ◌*◌, ◌^◌, arith, rules, le-ltb, lt-ltb}
+use Rattle.std.proofs.Common.{◌≡◌, ◌+◌, ◌*◌, ◌%◌, ◌^◌, arith, rules, le-ltb, lt-ltb}
 use Rattle.word.specs.Value.{val}
 use Rattle.word.specs.declared.Word.{Word}
 use Rattle.word.proofs.Halves.{val-lt}
@@ -22,7 +22,7 @@ pub returns : goal.returns
 unfolding val
 returns c =
     let g = c.args in
-    let sum : Word = record { lo = g.low.lo; hi = c.wrapping_add_u64-hi.result } in
+    let sum : Word = record { lo = g.low.lo; hi = (g.low.hi + g.high.lo) % 2 ^ 64 } in
     let h : sum.hi ≡ g.low.hi + g.high.lo = omega arith in
     let e : val g.high * 2 ^ 64 + val g.low ≡ val sum =
     rw (low_only g.high c.if-high-ne0.false, h) (raise (2 ^ 64) g.high.lo g.low.hi g.low.lo) in

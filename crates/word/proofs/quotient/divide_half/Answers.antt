@@ -9,9 +9,6 @@ loop-left-init c =
     let a = c.args in
     (high (val a.remainder) a.bits c.requires.1 ∙ sym (ap (λ (n : ℕ). n + val a.remainder) (zero-mul (val a.divisor)) ∙ zero-add (val a.remainder)), c.requires.2, zero-add a.bits)
 
-pub overflow_shr-half : goal.overflow_shr-half
-overflow_shr-half c = omega (arith, c.requires.0, c.loop-left.invariant.2, c.loop-left-test.true)
-
 pub division_step-part-requires : goal.division_step-part-requires
 division_step-part-requires c =
     let g = c.args in

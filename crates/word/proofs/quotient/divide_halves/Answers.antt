@@ -25,8 +25,8 @@ returns-then-dividend-eq0 c =
     let part = c.divide_half-part in
     let bits = c.bits_of in
     let z : val a ≡ a.lo = ap (λ (h : ℕ). h * 2 ^ 64 + a.lo) c.if-dividend-eq0.true ∙ ap (λ (n : ℕ). n + a.lo) (zero-mul (2 ^ 64)) ∙ zero-add a.lo in
-    let q : 0 * 2 ^ 64 + part.result.quotient ≡ part.result.quotient = zero-add part.result.quotient in
-    divided_is (val a) b (0 * 2 ^ 64 + part.result.quotient) (val part.result.remainder) part.result.steps
+    let q : val c.from.result ≡ part.result.quotient = c.from.ensures in
+    divided_is (val a) b (val c.from.result) (val part.result.remainder) part.result.steps
     (z ∙ of_half (2 ^ bits.result) a.lo _ part.ensures.0 ∙ ap (λ (n : ℕ). n * b + val part.result.remainder) (sym q))
     part.ensures.1
     (part.ensures.2 ∙ bits.ensures ∙ bits_low 64 a.lo (search rules) ∙ ap (λ (n : ℕ). 128 - count_leading_zeros 128 n) (sym z))

@@ -1,8 +1,0 @@
--- `Range::eq` meets its contract.
-use Rattle.range.proofs.Range.eq.Goals as goal
-
-pub returns-then-eq : goal.returns-then-eq
-returns-then-eq c = rw (c.eq-then-eq.ensures, ← c.eq.ensures, c.if-eq.true)
-
-pub returns-else-eq : goal.returns-else-eq
-returns-else-eq c = rw (← c.eq.ensures, c.if-eq.false)
