@@ -10,6 +10,7 @@ use crate::pattern::{bits_above, extended, low_bits, pattern_of};
 use answer::Refusal;
 use word::Word;
 
+#[tactic(auto, unfolding(word::specs::Value::val))]
 fn sign_extend(value: Word, width: u16) -> Word
     ensures { val result ≡ sign_extended width (val value) }
 {

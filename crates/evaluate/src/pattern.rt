@@ -1,4 +1,4 @@
-// Patterns of 128 bits: truth values, the low bits, and signed readings of a field.
+// Patterns of 128 bits: the low bits, and signed readings of a field.
 ghost use Rattle.std.specs.Prelude.{◌≡◌, min, ◌-◌, ◌%◌, ◌^◌};
 ghost use Rattle.word.specs.Value.{val, int_of, value_of, number_of};
 ghost use Rattle.word.specs.Option.{mapped};

@@ -20,6 +20,7 @@ impl Corners {
     fn span(self) -> Range
         ensures { bounds_of result ≡ span_of self.values }
     {
+        // `iter().min()` would give an Option, to be unwrapped.
         let [a, b, c, d] = self.values;
         Range {
             min: a.min(b).min(c.min(d)),

@@ -1,34 +1,17 @@
 -- `cmp` of two words by their halves, and what `==`, `<`, `<=`, `min` and `max` answer, in the words of contracts. Assumes nothing.
-use Rattle.std.proofs.Common.{◌≡◌, ℕ, ◌+◌, ◌*◌, ◌^◌, ◌<◌, ◌≤◌, Bool, true, false, ◌==◌, ◌&&◌, cond, ℤ, nat_lt, nat_le, min, max, int_lt, int_le, not, subst, true≢false, refl, sym, ap, ◌∙◌, arith, le_of_lt, ltb-true, ltb-false, le-leb, eqb-true, Ordering, Less, Equal, Greater}
+use Rattle.std.proofs.Common.{◌≡◌, ℕ, ◌<◌, ◌≤◌, Bool, true, false, ◌==◌, ◌&&◌, cond, ℤ, nat_lt, nat_le, min, max, int_lt, int_le, not, subst, true≢false, refl, sym, ap, ◌∙◌, arith, le_of_lt, ltb-true, ltb-false, le-leb, eqb-true, Ordering, Less, Equal, Greater}
 use Rattle.std.proofs.lemmas.Bool.{eqb-false}
 use Rattle.std.specs.Ordering.{MatchOrdering, nat_cmp, int_cmp, int_eq, is_eq, is_lt, is_le, ordering_then, as_partial_cmp, on, partial_lt, partial_le, ord_min, ord_max}
-use Rattle.std.specs.Cmp.{ranks, one_rank, below_irrefl, below_chain, both_tied, signed_Decides, unsigned_ties}
+use Rattle.std.specs.Cmp.{ranks, both_tied, signed_Decides, unsigned_ties}
 use native.Mathlib.Nat.{min-eq_left, min-eq_right, max-eq_left, max-eq_right}
 use borrow.Author.Tests.{lt-leb}
 use Rattle.word.specs.Value.{val, int_of, eq_z, min_z, max_z}
 use Rattle.word.specs.declared.Word.{Word}
 use Rattle.word.specs.declared.Signed.{Signed}
-use Rattle.word.proofs.Halves.{less_high}
 use Rattle.word.proofs.SignedHalves.{Held}
 use Rattle.word.proofs.Orders.{less_not, le-not_less, same_is, same_eq_z, int_less, int_low, int_low_no}
 
 -- ---- by halves
-
-module _ (k ah al bh bl : ℕ) (f : al < 2 ^ k) (g : bl < 2 ^ k) where
-  then_ranked : (r s : Ordering) → MatchOrdering r (ah < bh) (ah ≡ bh) (bh < ah) → MatchOrdering s (al < bl) (al ≡ bl) (bl < al)
-      → MatchOrdering (ordering_then r s) (ah * 2 ^ k + al < bh * 2 ^ k + bl) (ah * 2 ^ k + al ≡ bh * 2 ^ k + bl) (bh * 2 ^ k + bl < ah * 2 ^ k + al)
-  then_ranked Less s h l = less_high k ah al bh bl f h
-  then_ranked Equal Less h l = rw h (omega arith)
-  then_ranked Equal Equal h l = rw (h, l) refl
-  then_ranked Equal Greater h l = rw h (omega arith)
-  then_ranked Greater s h l = less_high k bh bl ah al g h
-
-  pub cmp_halves : ordering_then (nat_cmp ah bh) (nat_cmp al bl) ≡ nat_cmp (ah * 2 ^ k + al) (bh * 2 ^ k + bl)
-  cmp_halves = one_rank (λ (x y : ℕ). x < y) below_irrefl below_chain _ _ _ _ (then_ranked (nat_cmp ah bh) (nat_cmp al bl) (ranks ah bh) (ranks al bl)) (ranks (ah * 2 ^ k + al) (bh * 2 ^ k + bl))
-
-  pub eq_halves : ((ah == bh) && (al == bl)) ≡ (ah * 2 ^ k + al == bh * 2 ^ k + bl)
-  eq_halves = both_tied (ah == bh) (al == bl) (nat_cmp ah bh) (nat_cmp al bl) (unsigned_ties ah bh) (unsigned_ties al bl)
-      ∙ ap is_eq cmp_halves ∙ sym (unsigned_ties (ah * 2 ^ k + al) (bh * 2 ^ k + bl))
 
 int_cmp_less : (x y : ℤ) → int_lt x y ≡ true → int_cmp x y ≡ Less
 int_cmp_less x y e = rw e refl

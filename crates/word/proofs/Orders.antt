@@ -1,11 +1,10 @@
 -- Order and equality of integers of two halves. Assumes nothing.
-use Rattle.std.proofs.Common.{◌≡◌, ℕ, ◌+◌, ◌-◌, ◌*◌, ◌^◌, ◌<◌, ◌≤◌, Bool, true, false, not, ltb, leb, ℤ, pos, negsuc, sym, refl, ap, ◌∙◌, le_of_lt, arith, w64, SFits, to_z, of_z, ltb-false, ltb-true, le-ltb, lt-ltb, eq-eqb, ne_eqb, eqb-true, le-leb}
+use Rattle.std.proofs.Common.{◌≡◌, ℕ, ◌+◌, ◌-◌, ◌*◌, ◌^◌, ◌<◌, ◌≤◌, Bool, true, false, not, ltb, leb, ℤ, pos, negsuc, refl, ap, ◌∙◌, le_of_lt, arith, ltb-false, ltb-true, le-ltb, lt-ltb, eq-eqb, eqb-true, le-leb}
 use borrow.Author.Tests.{lt-leb}
 use lib.Signed.{lt_z, le_z}
-use mir.ValLaws.{to_z-of_z}
 use Rattle.word.specs.Value.{int_of, eq_z}
 use Rattle.word.specs.declared.Signed.{Signed}
-use Rattle.word.proofs.Halves.{less_high, halves_unique}
+use Rattle.word.proofs.Halves.{less_high}
 use Rattle.word.proofs.SignedHalves.{Held, joined, int_joined}
 
 -- ---- order
@@ -52,10 +51,6 @@ le-not_less (negsuc a) (negsuc b) {t} e = not_less b a t e
 
 -- ---- equality
 
--- the bits of two halves are equal exactly if the halves are
-half_unique : (x y : ℤ) → SFits w64 x → SFits w64 y → of_z w64 x ≡ of_z w64 y → x ≡ y
-half_unique x y f g e = sym (to_z-of_z w64 x f) ∙ ap (to_z w64) e ∙ to_z-of_z w64 y g
-
 pub same_eq_z : (x : ℤ) → eq_z x x ≡ true
 same_eq_z (pos a) = eq-eqb a a refl
 same_eq_z (negsuc a) = eq-eqb a a refl
@@ -66,27 +61,7 @@ same_is (pos m) (negsuc n) e = cc
 same_is (negsuc m) (pos n) e = cc
 same_is (negsuc m) (negsuc n) e = ap negsuc (eqb-true m n e)
 
-differ-eq_z : (x y : ℤ) → (x ≡ y → ⊥) → eq_z x y ≡ false
-differ-eq_z (pos a) (pos b) h = ne_eqb a b (λ e. h (ap pos e))
-differ-eq_z (pos a) (negsuc b) h = refl
-differ-eq_z (negsuc a) (pos b) h = refl
-differ-eq_z (negsuc a) (negsuc b) h = ne_eqb a b (λ e. h (ap negsuc e))
-
--- equal integers have equal halves
-joined_unique : (x y : ℤ) (l m : ℕ) → l < 2 ^ 64 → m < 2 ^ 64 → joined x l ≡ joined y m → (x ≡ y) × (l ≡ m)
-joined_unique (pos a) (pos b) l m f g e =
-    let u = halves_unique 64 a l b m f g (cc) in (ap pos u.0, u.1)
-joined_unique (pos a) (negsuc b) l m f g e = let z : ◌≡◌ {A = ℕ} 0 1 = cc in absurd (omega arith)
-joined_unique (negsuc a) (pos b) l m f g e = let z : ◌≡◌ {A = ℕ} 0 1 = cc in absurd (omega arith)
-joined_unique (negsuc a) (negsuc b) l m f g e =
-    let u = halves_unique 64 a (2 ^ 64 - 1 - l) b (2 ^ 64 - 1 - m) (omega arith) (omega arith) (cc) in
-    (ap negsuc u.0, omega (arith, u.1))
-
 -- ---- the same on signed words
-
--- what a comparison of two halves in locals says
-pub half_test : (x y : ℤ) → SFits w64 x → SFits w64 y → {t : Bool} → lt_z (to_z w64 (of_z w64 x)) (to_z w64 (of_z w64 y)) ≡ t → lt_z x y ≡ t
-half_test x y f g e = (λ i. lt_z (sym (to_z-of_z w64 x f) i) (sym (to_z-of_z w64 y g) i)) ∙ e
 
 module _ (a b : Signed) (f : Held a) (g : Held b) where
   by_halves : lt_z (int_of a) (int_of b) ≡ lt_z (joined a.hi a.lo) (joined b.hi b.lo)
@@ -104,20 +79,3 @@ module _ (a b : Signed) (f : Held a) (g : Held b) where
 
     pub int_low_no : b.lo ≤ a.lo → lt_z (int_of a) (int_of b) ≡ false
     int_low_no h = one_half ∙ low_joined_no b.hi a.lo b.lo h f.low
-
-  -- equal integers have equal halves
-  int_unique : int_of a ≡ int_of b → (a.hi ≡ b.hi) × (a.lo ≡ b.lo)
-  int_unique e =
-      joined_unique a.hi b.hi a.lo b.lo f.low g.low (sym (int_joined a f.low) ∙ e ∙ int_joined b g.low)
-
-  pub int_same : of_z w64 a.hi ≡ of_z w64 b.hi → a.lo ≡ b.lo → eq_z (int_of a) (int_of b) ≡ true
-  int_same h l =
-      ap (λ (z : ℤ). eq_z z (int_of b))
-      (int_joined a f.low ∙ (λ i. joined (half_unique a.hi b.hi f.half g.half h i) (l i)) ∙ sym (int_joined b g.low))
-      ∙ same_eq_z (int_of b)
-
-  pub int_high_differ : (of_z w64 a.hi ≡ of_z w64 b.hi → ⊥) → eq_z (int_of a) (int_of b) ≡ false
-  int_high_differ h = differ-eq_z (int_of a) (int_of b) (λ e. h (ap (of_z w64) (int_unique e).0))
-
-  pub int_low_differ : (a.lo ≡ b.lo → ⊥) → eq_z (int_of a) (int_of b) ≡ false
-  int_low_differ h = differ-eq_z (int_of a) (int_of b) (λ e. h (int_unique e).1)

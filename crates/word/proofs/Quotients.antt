@@ -2,7 +2,7 @@
 use Rattle.std.proofs.Common.{◌≡◌, ℕ, suc, ◌+◌, ◌-◌, ◌*◌, ◌/◌, ◌%◌, ◌^◌, ◌<◌, ◌≤◌, Bool, true, false, not, ltb, sym, refl, ap, ◌∙◌, ⊎_elim, lt_of_lt_of_le, mul-le-mul_right, mul_assoc, suc-mul, add-mul, lt_of_mul-lt-mul_right, one-mul, zero-add, zero-mul, mul_right_comm, div-mul-le_self, mul_left_comm, arith, pow_mono, pow-add, shr-shr, ltb-true, le-ltb, lt-ltb}
 use Rattle.std.specs.Prelude.{Option, None, Some}
 use Rattle.std.specs.Option.{MatchOption, IsSomeAnd}
-use borrow.Author.Tests.{not-true, not-false}
+use borrow.Author.Tests.{not-true}
 use lib.Count.{count_leading_zeros}
 use lib.Bits.{bit_or}
 use lib.Arith.{digits_div, digits_mod}
@@ -169,6 +169,3 @@ part_given f part true v (Some x) (Some w) e h = ap Some (part x w h ∙ ap f (a
 module _ (n : ℕ) {t : Bool} (tested : t ≡ not (ltb 0 n)) where
   pub by_zero : t ≡ true → ltb 0 n ≡ false
   by_zero e = not-true (ltb 0 n) (sym tested ∙ e)
-
-  pub not_by_zero : t ≡ false → ltb 0 n ≡ true
-  not_by_zero e = not-false (ltb 0 n) (sym tested ∙ e)

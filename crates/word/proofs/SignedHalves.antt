@@ -1,5 +1,5 @@
 -- Signed words by their halves: value, sign and bits. Assumes nothing.
-use Rattle.std.proofs.Common.{◌≡◌, ℕ, zero, suc, ◌+◌, ◌-◌, ◌*◌, ◌^◌, ◌<◌, ◌≤◌, Bool, true, false, ℤ, pos, negsuc, ◌+ℤ◌, ◌-ℤ◌, ◌*ℤ◌, neg_ℤ, sym, refl, ap, ◌∙◌, subst, ⊎_elim, suc-mul, arith, pow_pos, w64, SFits, to_z, of_z, le-ltb, lt-ltb}
+use Rattle.std.proofs.Common.{◌≡◌, ℕ, zero, suc, ◌+◌, ◌-◌, ◌*◌, ◌^◌, ◌<◌, ◌≤◌, Bool, true, ℤ, pos, negsuc, ◌+ℤ◌, ◌-ℤ◌, ◌*ℤ◌, neg_ℤ, sym, refl, ap, ◌∙◌, subst, ⊎_elim, suc-mul, arith, pow_pos, w64, SFits, to_z, of_z, le-ltb, lt-ltb}
 use lib.Signed.{mag, lt_z}
 use mir.ValLaws.{to_z-of_z, to_z_pos}
 use Rattle.word.specs.Value.{val, int_of, residue, signed, is_neg}
@@ -102,35 +102,7 @@ pub flip : (h : ℤ) → is_neg h ≡ true → negsuc 0 -ℤ h ≡ pos (mag h)
 flip (pos n) t = cc
 flip (negsuc n) t = rw (le-ltb (suc n) 1 (omega arith)) (ap pos (omega arith))
 
-nonneg : (h : ℤ) → is_neg h ≡ false → h ≡ pos (mag h)
-nonneg (pos n) t = refl
-nonneg (negsuc n) t = cc
-
-bits_of_neg : (h : ℤ) → is_neg h ≡ true → 2 ^ 64 - 1 - mag h ≡ of_z w64 h
-bits_of_neg (pos n) t = cc
-bits_of_neg (negsuc n) t = omega arith
-
 module _ (h : ℤ) (f : SFits w64 h) where
   -- what a test of a half's sign says
   pub sign : {t : Bool} → lt_z (to_z w64 (of_z w64 h)) (pos 0) ≡ t → is_neg h ≡ t
   sign e = sym (neg_test h) ∙ ap (λ (z : ℤ). lt_z z (pos 0)) (sym (to_z-of_z w64 h f)) ∙ e
-
-  -- -1 - h is the magnitude of a negative h
-  pub flip_read : lt_z (to_z w64 (of_z w64 h)) (pos 0) ≡ true → negsuc 0 -ℤ to_z w64 (of_z w64 h) ≡ pos (mag h)
-  flip_read t = rw (to_z-of_z w64 h f) (flip h (sign t))
-
-  pub flip_back : lt_z (to_z w64 (of_z w64 h)) (pos 0) ≡ true → to_z w64 (of_z w64 (negsuc 0 -ℤ to_z w64 (of_z w64 h))) ≡ pos (mag h)
-  flip_back t = rw (flip_read t) (to_z-of_z w64 (pos (mag h)) (record { sfits = f.sfits }))
-
-  pub nonneg_read : lt_z (to_z w64 (of_z w64 h)) (pos 0) ≡ false → to_z w64 (of_z w64 h) ≡ pos (mag h)
-  nonneg_read t = rw (to_z-of_z w64 h f) (nonneg h (sign t))
-
-  pub half_neg : lt_z (to_z w64 (of_z w64 h)) (pos 0) ≡ true → 2 ^ 64 - 1 - mag h ≡ of_z w64 h
-  half_neg t = bits_of_neg h (sign t)
-
-  pub half_nonneg : lt_z (to_z w64 (of_z w64 h)) (pos 0) ≡ false → mag h ≡ of_z w64 h
-  half_nonneg t = ap (of_z w64) (sym (nonneg h (sign t)))
-
--- a half from bits of the upper half of the numbers
-pub flip_high : (u : ℕ) → u < 2 ^ 64 → 2 ^ 63 ≤ u → negsuc 0 -ℤ to_z w64 (2 ^ 64 - 1 - u) ≡ to_z w64 u
-flip_high u f g = rw (to_z_pos w64 (2 ^ 64 - 1 - u) (omega arith)) (minus_one (2 ^ 64 - 1 - u) ∙ ap negsuc (omega arith) ∙ sym (to_z_high u g))

@@ -56,6 +56,7 @@ impl PartialOrd for Word {
     }
 }
 
+// Word's impls again: the two stay structs of their own by a rule of the project, and no macro may write an impl.
 impl PartialEq for Signed {
     ghost eq = { on int_of int_eq };
 
