@@ -2,24 +2,26 @@
 #![tactic(auto)]
 
 ghost use Rattle.std.specs.Io.KnownBytes.{Consumes};
-ghost use Rattle.std.specs.Prelude.{◌≡◌, ◌+◌, ◌≤◌, eqb, leb, length, take};
+ghost use Rattle.std.specs.Prelude.{◌≡◌, ◌+◌, ◌<◌, ◌≤◌, IfSome, eqb, leb, ltb, length, take};
 ghost use Rattle.word.specs.Value.{val, number_of};
-ghost use Rattle.word.specs.Option.{provided};
+ghost use Rattle.word.specs.Option.{only, provided};
 ghost use Rattle.text.specs.Text.{placed, end_of, placed_in};
 ghost use Rattle.vector_lines.specs.Text.{digit_value, spelled, hex_digits};
 
 use std::io::Read;
-use text::put_text_in_room;
+use text::{has_room, put_text_in_room};
 use word::Word;
 
-// A hex digit's value, or 16 for another byte.
-fn digit_value(b: u8) -> u64
-    ensures { result ≡ digit_value b }
+// A hex digit's value. `char::to_digit` would also read the capitals A to F.
+#[tactic(auto, unfolding(crate::specs::Text::digit_value))]
+fn digit_value(b: u8) -> Option<u64>
+    ensures value { result ≡ only (ltb (digit_value b) 16) (digit_value b) }
+    ensures bound { IfSome result (λ d. d < 16) }
 {
     match b {
-        48..=57 => (b - 48) as u64,
-        97..=102 => (b - 87) as u64,
-        _ => 16,
+        b'0'..=b'9' => Some((b - b'0') as u64),
+        b'a'..=b'f' => Some((b - b'a') as u64 + 10),
+        _ => None,
     }
 }
 
@@ -30,15 +32,9 @@ pub fn number_of(text: &[u8]) -> Option<u64>
     if 16 < text.len() {
         return None;
     }
-    let mut n: u64 = 0;
-    let mut i = 0;
-    while i < text.len() {
-        let d = digit_value(text[i]);
-        if 15 < d {
-            return None;
-        }
-        n = n * 16 + d;
-        i += 1;
+    let mut n = 0;
+    for &b in text {
+        n = n * 16 + digit_value(b)?;
     }
     Some(n)
 }
@@ -50,24 +46,9 @@ pub fn word_of(text: &[u8]) -> Option<Word>
     if text.len() != 32 {
         return None;
     }
-    let high = number_of(&text[..16]);
-    let low = number_of(&text[16..]);
-    let Some(hi) = high else {
-        return None;
-    };
-    let Some(lo) = low else {
-        return None;
-    };
-    Some(Word { lo: lo, hi: hi })
-}
-
-fn put_digits(text: &[u8; 16], out: &mut [u8], at: usize) -> usize
-    requires { at + 16 ≤ length out.old }
-    ensures text_len { length text.now ≡ 16 }
-    ensures value { result ≡ at + 16 }
-    ensures out_after { out.new ≡ placed out.old at text.now }
-{
-    put_text_in_room(text, out, at)
+    let hi = number_of(&text[..16])?;
+    let lo = number_of(&text[16..])?;
+    Some(Word { lo, hi })
 }
 
 // Puts the 16 hex digits of a half into out from `at` on, and answers where they end.
@@ -78,7 +59,7 @@ fn put_half(half: u64, out: &mut [u8], at: usize) -> usize
 {
     let mut text = [0u8; 16];
     io::hex(half, 16, &mut text);
-    put_digits(&text, out, at)
+    put_text_in_room(&text, out, at)
 }
 
 // Puts the 32 hex digits of a word into out from `at` on, and answers where they end.
@@ -96,12 +77,11 @@ pub fn put_word(w: Word, out: &mut [u8], at: usize) -> usize
     ensures value { result ≡ end_of out.old at 32 }
     ensures out_after { out.new ≡ placed_in out.old at 32 (hex_digits 32 (val w)) }
 {
-    if at <= out.len() {
-        if 32 <= out.len() - at {
-            return put_word_in_room(w, out, at);
-        }
+    if has_room(out, at, 32) {
+        put_word_in_room(w, out, at)
+    } else {
+        at
     }
-    at
 }
 
 // Fills a block with what a reader gives, and answers how many bytes came: they are the next ones of the reader, in their order. There are fewer
@@ -112,14 +92,10 @@ pub fn read_full<R: Read>(reader: &mut R, block: &mut [u8]) -> usize
 {
     let mut at = 0;
     while at < block.len() {
-        let got = match reader.read(&mut block[at..]) {
-            Ok(n) => n,
-            Err(_) => 0,
-        };
-        if got == 0 {
-            return at;
+        match reader.read(&mut block[at..]) {
+            Ok(0) | Err(_) => return at,
+            Ok(got) => at += got,
         }
-        at += got;
     }
     at
 }
