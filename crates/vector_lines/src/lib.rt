@@ -99,3 +99,47 @@ pub fn read_full<R: Read>(reader: &mut R, block: &mut [u8]) -> usize
     }
     at
 }
+
+// Puts the digits of a word and a line end into out from `at` on, and answers where they end.
+pub fn put_word_line(w: Word, out: &mut [u8], at: usize) -> usize
+    requires { at + 33 ≤ length out.old }
+    ensures { result ≡ at + 33 }
+{
+    let end = put_word_in_room(w, out, at);
+    put_text_in_room(b"\n", out, end)
+}
+
+// How far the lines of a block were answered: how many bytes the answers have, and whether that is all of the block.
+#[derive(Clone, Copy)]
+struct Answered {
+    len: usize,
+    is_whole: bool,
+}
+
+// Puts the answers to the lines of block, each of `size` bytes, at the start of out, up to one that has no answer.
+fn answer_lines<F: FnMut(&[u8], &mut [u8]) -> Option<usize>>(
+    block: &[u8],
+    size: usize,
+    out: &mut [u8],
+    answer: &mut F,
+) -> Answered
+    requires some_byte { 0 < size }
+    requires callable { (f : F) (l : _) (o : _) → F.pre f l o }
+    requires within { (f : F) (l : _) (o : _) (r : _) (o_after : _) (f_after : F) → F.step f l o r o_after f_after → IfSome r (λ n. n ≤ length o.now) }
+    ensures { result.len ≤ length out.new }
+{
+    let mut len = 0;
+    for line in block.chunks_exact(size) {
+        let Some(n) = answer(line, &mut out[len..]) else {
+            return Answered {
+                len,
+                is_whole: false,
+            };
+        };
+        len += n;
+    }
+    Answered {
+        len,
+        is_whole: block.len() % size == 0,
+    }
+}
