@@ -8,7 +8,7 @@ ghost use Rattle.word.specs.Option.{only, provided};
 ghost use Rattle.text.specs.Text.{placed, end_of, placed_in};
 ghost use Rattle.vector_lines.specs.Text.{digit_value, spelled, hex_digits};
 
-use std::io::Read;
+use std::io::{Read, Write};
 use text::{has_room, put_text_in_room};
 use word::Word;
 
@@ -141,5 +141,45 @@ fn answer_lines<F: FnMut(&[u8], &mut [u8]) -> Option<usize>>(
     Answered {
         len,
         is_whole: block.len() % size == 0,
+    }
+}
+
+// Reads a block of lines and writes their answers, and answers whether there may be more lines.
+fn replay_block<R: Read, W: Write, F: FnMut(&[u8], &mut [u8]) -> Option<usize>>(
+    reader: &mut R,
+    writer: &mut W,
+    size: usize,
+    block: &mut [u8],
+    out: &mut [u8],
+    answer: &mut F,
+) -> bool
+    requires some_byte { 0 < size }
+    requires callable { (f : F) (l : _) (o : _) → F.pre f l o }
+    requires within { (f : F) (l : _) (o : _) (r : _) (o_after : _) (f_after : F) → F.step f l o r o_after f_after → IfSome r (λ n. n ≤ length o.now) }
+{
+    let n = read_full(reader, block);
+    let answered = answer_lines(&block[..n], size, out, answer);
+    writer.write_all(&out[..answered.len]).is_ok() && answered.is_whole && n == block.len()
+}
+
+// Replays test vectors: reads lines of `size` bytes, as many at a time as block holds, and writes their answers, which out has room for. It stops
+// at a line that has no answer, and at the reader's end. `answer` puts a line's answer at the start of a slice, and answers where it ends.
+pub fn replay<R: Read, W: Write, F: FnMut(&[u8], &mut [u8]) -> Option<usize>>(
+    reader: &mut R,
+    writer: &mut W,
+    size: usize,
+    block: &mut [u8],
+    out: &mut [u8],
+    mut answer: F,
+)
+    requires some_byte { 0 < size }
+    requires callable { (f : F) (l : _) (o : _) → F.pre f l o }
+    requires within { (f : F) (l : _) (o : _) (r : _) (o_after : _) (f_after : F) → F.step f l o r o_after f_after → IfSome r (λ n. n ≤ length o.now) }
+{
+    // A proved loop has to end: no run takes so many turns.
+    for _ in 0..u64::MAX {
+        if !replay_block(reader, writer, size, block, out, &mut answer) {
+            return;
+        }
     }
 }
