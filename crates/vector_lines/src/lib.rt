@@ -6,6 +6,7 @@ ghost use Rattle.std.specs.Prelude.{◌≡◌, ◌+◌, ◌<◌, ◌≤◌, IfSo
 ghost use Rattle.word.specs.Value.{val, number_of};
 ghost use Rattle.word.specs.Option.{only, provided};
 ghost use Rattle.text.specs.Text.{placed, end_of, placed_in};
+ghost use Rattle.vector_lines.specs.Replay.{AnswersWithin};
 ghost use Rattle.vector_lines.specs.Text.{digit_value, spelled, hex_digits};
 
 use std::io::{Read, Write};
@@ -124,8 +125,7 @@ fn answer_lines<F: FnMut(&[u8], &mut [u8]) -> Option<usize>>(
     answer: &mut F,
 ) -> Answered
     requires some_byte { 0 < size }
-    requires callable { (f : F) (l : _) (o : _) → F.pre f l o }
-    requires within { (f : F) (l : _) (o : _) (r : _) (o_after : _) (f_after : F) → F.step f l o r o_after f_after → IfSome r (λ n. n ≤ length o.now) }
+    requires answers { AnswersWithin F.FnMut }
     ensures { result.len ≤ length out.new }
 {
     let mut len = 0;
@@ -154,8 +154,7 @@ fn replay_block<R: Read, W: Write, F: FnMut(&[u8], &mut [u8]) -> Option<usize>>(
     answer: &mut F,
 ) -> bool
     requires some_byte { 0 < size }
-    requires callable { (f : F) (l : _) (o : _) → F.pre f l o }
-    requires within { (f : F) (l : _) (o : _) (r : _) (o_after : _) (f_after : F) → F.step f l o r o_after f_after → IfSome r (λ n. n ≤ length o.now) }
+    requires answers { AnswersWithin F.FnMut }
 {
     let n = read_full(reader, block);
     let answered = answer_lines(&block[..n], size, out, answer);
@@ -173,8 +172,7 @@ pub fn replay<R: Read, W: Write, F: FnMut(&[u8], &mut [u8]) -> Option<usize>>(
     mut answer: F,
 )
     requires some_byte { 0 < size }
-    requires callable { (f : F) (l : _) (o : _) → F.pre f l o }
-    requires within { (f : F) (l : _) (o : _) (r : _) (o_after : _) (f_after : F) → F.step f l o r o_after f_after → IfSome r (λ n. n ≤ length o.now) }
+    requires answers { AnswersWithin F.FnMut }
 {
     // A proved loop has to end: no run takes so many turns.
     for _ in 0..u64::MAX {
