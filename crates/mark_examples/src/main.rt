@@ -26,13 +26,14 @@ fn letter(answer: Result<Answer, Refusal>) -> u8 {
 
 fn digit(number: u64) -> u8 {
     match number {
-        0 => b'0',
-        1 => b'1',
-        2 => b'2',
-        3 => b'3',
-        4 => b'4',
+        0..=4 => b'0' + number as u8,
         _ => b'?',
     }
+}
+
+// The same of an answer that is a number or a refusal.
+fn number(answer: Result<u64, Refusal>) -> u8 {
+    answer.map_or(b'?', digit)
 }
 
 fn say(mut stdout: Stdout, byte: u8) {
@@ -41,7 +42,7 @@ fn say(mut stdout: Stdout, byte: u8) {
 }
 
 // Is input 0 below 5? The node of the question is 2 unless what is known decides it.
-fn is_below(g: &mut [u64]) -> Result<Answer, Refusal> {
+fn is_below(g: &mut [u64; REGION]) -> Result<Answer, Refusal> {
     by_name::binary(
         g,
         ScalarType::Bool,
@@ -52,7 +53,7 @@ fn is_below(g: &mut [u64]) -> Result<Answer, Refusal> {
 }
 
 // Nodes 0, 1 and 2: an input, a constant, and the question.
-fn begin(stdout: Stdout, g: &mut [u64]) {
+fn begin(stdout: Stdout, g: &mut [u64; REGION]) {
     let bits = ScalarType::Bits(8);
     let five = Word { lo: 5, hi: 0 };
     say(
@@ -63,24 +64,24 @@ fn begin(stdout: Stdout, g: &mut [u64]) {
     say(stdout, letter(is_below(g)));
 }
 
-fn set_mark(stdout: Stdout, g: &[u64], m: &mut [u64]) {
-    say(stdout, digit(calls::mark(g, m).number()));
+fn set_mark(stdout: Stdout, g: &[u64; REGION], m: &mut [u64; MARKS]) {
+    say(stdout, number(calls::mark(g, m).map(|mark| mark.0)));
 }
 
-fn assume(stdout: Stdout, g: &mut [u64]) {
+fn assume(stdout: Stdout, g: &mut [u64; REGION]) {
     say(stdout, letter(by_name::assume_guard(g, NodeId(2), true)));
 }
 
-fn go_back(stdout: Stdout, g: &mut [u64], m: &mut [u64]) {
+fn go_back(stdout: Stdout, g: &mut [u64; REGION], m: &mut [u64; MARKS]) {
     say(stdout, letter(calls::return_to(g, m, MarkId(0))));
 }
 
-fn resolved(stdout: Stdout, g: &[u64]) {
+fn resolved(stdout: Stdout, g: &[u64; REGION]) {
     say(stdout, letter(reading::resolve(g, NodeId(0))));
 }
 
 // In the arm the question is decided; after the return it is the node again.
-fn arm(stdout: Stdout, g: &mut [u64], m: &mut [u64]) {
+fn arm(stdout: Stdout, g: &mut [u64; REGION], m: &mut [u64; MARKS]) {
     set_mark(stdout, g, m);
     assume(stdout, g);
     say(stdout, letter(is_below(g)));
@@ -89,11 +90,11 @@ fn arm(stdout: Stdout, g: &mut [u64], m: &mut [u64]) {
 }
 
 // A retain of all nodes clears the aliases and keeps the Refine, which the guard finds again.
-fn old_refine(stdout: Stdout, g: &mut [u64], m: &mut [u64]) {
+fn old_refine(stdout: Stdout, g: &mut [u64; REGION], m: &mut [u64; MARKS]) {
     assume(stdout, g);
     let keep = [1u8; 4];
     let mut mapping = [0u64; 4];
-    say(stdout, digit(retain(g, m, &keep, &mut mapping).number()));
+    say(stdout, number(retain(g, m, &keep, &mut mapping)));
     set_mark(stdout, g, m);
     assume(stdout, g);
     resolved(stdout, g);
