@@ -3,7 +3,7 @@
 #![tactic(auto)]
 
 use evaluate::Binary;
-use graph::layout::REGION;
+use graph::layout::{REGION, Region};
 use graph::{InputId, NodeId};
 use mark::layout::MARKS;
 use mark::retain_nodes::retain;
@@ -42,7 +42,7 @@ fn say(mut stdout: Stdout, byte: u8) {
 }
 
 // Is input 0 below 5? The node of the question is 2 unless what is known decides it.
-fn is_below(g: &mut [u64; REGION]) -> Result<Answer, Refusal> {
+fn is_below(g: &mut Region) -> Result<Answer, Refusal> {
     by_name::binary(
         g,
         ScalarType::Bool,
@@ -53,7 +53,7 @@ fn is_below(g: &mut [u64; REGION]) -> Result<Answer, Refusal> {
 }
 
 // Nodes 0, 1 and 2: an input, a constant, and the question.
-fn begin(stdout: Stdout, g: &mut [u64; REGION]) {
+fn begin(stdout: Stdout, g: &mut Region) {
     let bits = ScalarType::Bits(8);
     let five = Word { lo: 5, hi: 0 };
     say(
@@ -64,24 +64,24 @@ fn begin(stdout: Stdout, g: &mut [u64; REGION]) {
     say(stdout, letter(is_below(g)));
 }
 
-fn set_mark(stdout: Stdout, g: &[u64; REGION], m: &mut [u64; MARKS]) {
+fn set_mark(stdout: Stdout, g: &Region, m: &mut [u64; MARKS]) {
     say(stdout, number(calls::mark(g, m).map(|mark| mark.0)));
 }
 
-fn assume(stdout: Stdout, g: &mut [u64; REGION]) {
+fn assume(stdout: Stdout, g: &mut Region) {
     say(stdout, letter(by_name::assume_guard(g, NodeId(2), true)));
 }
 
-fn go_back(stdout: Stdout, g: &mut [u64; REGION], m: &mut [u64; MARKS]) {
+fn go_back(stdout: Stdout, g: &mut Region, m: &mut [u64; MARKS]) {
     say(stdout, letter(calls::return_to(g, m, MarkId(0))));
 }
 
-fn resolved(stdout: Stdout, g: &[u64; REGION]) {
+fn resolved(stdout: Stdout, g: &Region) {
     say(stdout, letter(reading::resolve(g, NodeId(0))));
 }
 
 // In the arm the question is decided; after the return it is the node again.
-fn arm(stdout: Stdout, g: &mut [u64; REGION], m: &mut [u64; MARKS]) {
+fn arm(stdout: Stdout, g: &mut Region, m: &mut [u64; MARKS]) {
     set_mark(stdout, g, m);
     assume(stdout, g);
     say(stdout, letter(is_below(g)));
@@ -90,7 +90,7 @@ fn arm(stdout: Stdout, g: &mut [u64; REGION], m: &mut [u64; MARKS]) {
 }
 
 // A retain of all nodes clears the aliases and keeps the Refine, which the guard finds again.
-fn old_refine(stdout: Stdout, g: &mut [u64; REGION], m: &mut [u64; MARKS]) {
+fn old_refine(stdout: Stdout, g: &mut Region, m: &mut [u64; MARKS]) {
     assume(stdout, g);
     let keep = [1u8; 4];
     let mut mapping = [0u64; 4];
