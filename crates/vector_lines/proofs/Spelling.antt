@@ -6,11 +6,10 @@ use mathlib.Core.Path.{◌≡◌, refl, sym, ap, ◌∙◌}
 use Prim.Native.Nat.{ℕ, zero, suc, ◌+◌, ◌-◌, ◌*◌, ◌/◌, ◌%◌, ◌^◌, ◌≤◌, ◌<◌}
 use native.Mathlib.Nat.{pow-suc, pow-le-pow_right, lt_of_lt_of_le, le_of_eq, add-zero, add-suc, suc-add, zero-add, zero-lt-suc, mul_assoc}
 use native.Mathlib.Omega.{arith}
-use borrow.Author.Tests.{lt-ltb, le-ltb}
 use lib.Arith.{digits_lt}
 use lib.Dec.{eqb, ltb, leb}
-use lib.ListN.{length, get_or, take, drop, take-append-drop, length-drop}
-use lib.Seq.{drop-cons, take_all, length-take-le}
+use lib.ListN.{length, take, drop, take-append-drop, length-drop}
+use lib.Seq.{take_all, length-take-le}
 use Rattle.word.specs.Option.{provided}
 use Rattle.io.specs.Digits.{last_digits, hex_digit_ascii}
 use Rattle.vector_lines.specs.Text.{digit_value, spelled_after, spelled, hex_digits}

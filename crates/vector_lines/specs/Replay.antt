@@ -8,4 +8,4 @@ abbrev pub AnswersWithin : {F : Type 0} → Mut F (Bor (List ℕ) × (MutBor (Li
 AnswersWithin {F} g =
     ((f : F) (line : Bor (List ℕ)) (out : MutBor (List ℕ)) → g.pre f (line, (out, tt)))
     × ((f : F) (line : Bor (List ℕ)) (out : MutBor (List ℕ)) (end : Option ℕ) (out_after : MutBor (List ℕ)) (f_after : F)
-        → Called g f (line, (out, tt)) (end, (out_after, tt)) f_after → IfSome end (λ n. n ≤ length out.now))
+    → Called g f (line, (out, tt)) (end, (out_after, tt)) f_after → IfSome end (λ n. n ≤ length out.now))
