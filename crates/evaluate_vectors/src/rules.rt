@@ -67,12 +67,7 @@ fn mask_of(ty: ScalarType) -> Option<Answer> {
 }
 
 // The functions of types and ranges, by their numbers, which stand only here.
-pub(crate) fn function_answer(
-    function: u64,
-    ty: ScalarType,
-    a: Range,
-    b: Range,
-) -> Option<Answer> {
+pub(crate) fn function_answer(function: u64, ty: ScalarType, a: Range, b: Range) -> Option<Answer> {
     match function {
         0 => mask_of(ty),
         1 => Some(Answer::Interval(type_range(ty))),
