@@ -2,6 +2,7 @@
 // alias to a Refine that stood before the mark is taken back.
 #![tactic(auto)]
 
+use answer::Refusal;
 use evaluate::Binary;
 use graph::layout::{REGION, Region};
 use graph::{InputId, NodeId};
@@ -12,7 +13,6 @@ use native::{Answer, by_name, reading};
 use range::ScalarType;
 use std::io::{Stdout, Write};
 use word::Word;
-use answer::Refusal;
 
 // An answer as one byte: a number below ten is its digit, Done is d, None and a refusal are n and r.
 fn letter(answer: Result<Answer, Refusal>) -> u8 {
@@ -26,7 +26,7 @@ fn letter(answer: Result<Answer, Refusal>) -> u8 {
 
 fn digit(number: u64) -> u8 {
     match number {
-        0..=4 => b'0' + number as u8,
+        0..=9 => b'0' + number as u8,
         _ => b'?',
     }
 }
@@ -56,10 +56,7 @@ fn is_below(g: &mut Region) -> Result<Answer, Refusal> {
 fn begin(stdout: Stdout, g: &mut Region) {
     let bits = ScalarType::Bits(8);
     let five = Word { lo: 5, hi: 0 };
-    say(
-        stdout,
-        letter(by_name::input(g, InputId(0), bits, None)),
-    );
+    say(stdout, letter(by_name::input(g, InputId(0), bits, None)));
     say(stdout, letter(by_name::constant(g, bits, five)));
     say(stdout, letter(is_below(g)));
 }

@@ -4,6 +4,13 @@
 ghost use Rattle.std.specs.Prelude.{◌≡◌, ◌+◌, ◌≤◌, length};
 ghost use Rattle.text.specs.Text.{placed, has_room, end_of, placed_in, decimal};
 
+// Is there room for n bytes of out from `at` on?
+pub fn has_room(out: &[u8], at: usize, n: usize) -> bool
+    ensures { result ≡ has_room out.now at n }
+{
+    at <= out.len() && n <= out.len() - at
+}
+
 // Puts text into out from `at` on, and answers where it ends.
 #[tactic(auto, unfolding(crate::specs::Text::placed))]
 pub fn put_text_in_room(text: &[u8], out: &mut [u8], at: usize) -> usize
@@ -14,13 +21,6 @@ pub fn put_text_in_room(text: &[u8], out: &mut [u8], at: usize) -> usize
     let end = at + text.len();
     out[at..end].copy_from_slice(text);
     end
-}
-
-// Is there room for n bytes of out from `at` on?
-pub fn has_room(out: &[u8], at: usize, n: usize) -> bool
-    ensures { result ≡ has_room out.now at n }
-{
-    at <= out.len() && n <= out.len() - at
 }
 
 // The same where there is room for it, and else nothing.
@@ -35,8 +35,20 @@ pub fn put_text(text: &[u8], out: &mut [u8], at: usize) -> usize
     }
 }
 
+// How many decimal digits n has.
+#[tactic(auto, using(crate::proofs::Decimal::length_small, crate::proofs::Decimal::length_large, crate::proofs::Decimal::decimal_short))]
+fn decimal_places(n: u64) -> usize
+    ensures { result ≡ length (decimal n) }
+{
+    if n < 10 {
+        1
+    } else {
+        decimal_places(n / 10) + 1
+    }
+}
+
 // Puts the decimal digits of n into out from `at` on, and answers where they end.
-#[tactic(auto, using(crate::proofs::Decimal::decimal_small, crate::proofs::Decimal::decimal_large, crate::proofs::Decimal::length_small, crate::proofs::Decimal::length_large))]
+#[tactic(auto, using(crate::proofs::Decimal::length_small, crate::proofs::Decimal::length_large))]
 pub fn put_decimal_in_room(n: u64, out: &mut [u8], at: usize) -> usize
     requires { at + length (decimal n) ≤ length out.old }
     ensures value { result ≡ at + length (decimal n) }
@@ -49,18 +61,6 @@ pub fn put_decimal_in_room(n: u64, out: &mut [u8], at: usize) -> usize
     let end = put_decimal_in_room(n / 10, out, at);
     out[end] = b'0' + (n % 10) as u8;
     end + 1
-}
-
-// How many decimal digits n has.
-#[tactic(auto, using(crate::proofs::Decimal::length_small, crate::proofs::Decimal::length_large, crate::proofs::Decimal::decimal_short))]
-fn decimal_places(n: u64) -> usize
-    ensures { result ≡ length (decimal n) }
-{
-    if n < 10 {
-        1
-    } else {
-        decimal_places(n / 10) + 1
-    }
 }
 
 // The same where there is room for them, and else nothing.

@@ -1,4 +1,4 @@
-// The text of test vectors: hex digits that are read, and words that are put into a lent slice in hex digits.
+// The text of test vectors: hex digits that are read, and words that are put into a lent slice in hex digits; and the replay of vectors.
 #![tactic(auto)]
 
 ghost use Rattle.std.specs.Io.KnownBytes.{Consumes};
@@ -91,6 +91,7 @@ pub fn read_full<R: Read>(reader: &mut R, block: &mut [u8]) -> usize
     ensures in_bounds { result ≤ length block.old }
     ensures bytes { Consumes (R.remaining reader.old) (R.remaining reader.new) (take result block.new) }
 {
+    // Each read decides how far it goes, so that no `for` fits.
     let mut at = 0;
     while at < block.len() {
         match reader.read(&mut block[at..]) {
