@@ -1,119 +1,86 @@
 // The answer to a vector: an operator's code evaluates it; past those the range of its node is asked, and then a function of ranges.
-use crate::operators::{binary_named, type_of, unary_named};
+use crate::operators::{Operator, operator_of};
 use crate::rules::{function_answer, rule_answer};
-use evaluate::code::BINARY;
+use answer::Refusal;
 use evaluate::one_operand::evaluate_unary;
+use evaluate::pattern::from_bool;
 use evaluate::two_operands::evaluate_binary;
 use range::{Range, ScalarType};
 use word::Word;
-use answer::Refusal;
 
 // From here on a vector asks for the range of an operator's node, its code above this.
 const RULES: u64 = 64;
 // From here on for a function of ranges.
 const FUNCTIONS: u64 = 128;
 
-// A pattern of 128 bits, a range, a refusal by its number, or Rust's None. What no vector asks is malformed.
+// A pattern of 128 bits or Rust's None, a range or none, or a refusal.
 #[derive(Clone, Copy)]
 pub(crate) enum Answer {
-    Pattern(Word),
-    Interval(Range),
-    Refused(u64),
-    Nothing,
-    Malformed,
+    Pattern(Option<Word>),
+    Interval(Option<Range>),
+    Refused(Refusal),
 }
 
-// The first fields of a vector.
+// 1 for true and 0 for false.
+impl From<bool> for Answer {
+    fn from(truth: bool) -> Answer {
+        Answer::Pattern(Some(from_bool(truth)))
+    }
+}
+
+impl From<Result<Option<Word>, Refusal>> for Answer {
+    fn from(evaluated: Result<Option<Word>, Refusal>) -> Answer {
+        match evaluated {
+            Ok(pattern) => Answer::Pattern(pattern),
+            Err(refusal) => Answer::Refused(refusal),
+        }
+    }
+}
+
+// The first two operands are an evaluator's, and the ends of the first range; the others are the ends of the second.
 #[derive(Clone, Copy)]
-pub(crate) struct Head {
+pub(crate) struct Vector {
     pub code: u64,
-    pub type_code: u64,
+    pub ty: ScalarType,
     pub width: u16,
-}
-
-// The operands: the first two are an evaluator's, and the ends of the first range.
-#[derive(Clone, Copy)]
-pub(crate) struct Operands {
     pub a: Word,
     pub b: Word,
     pub c: Word,
     pub d: Word,
 }
 
-pub(crate) fn of_bool(b: bool) -> Answer {
-    if b {
-        Answer::Pattern(Word { lo: 1, hi: 0 })
-    } else {
-        Answer::Pattern(Word { lo: 0, hi: 0 })
+fn evaluated(operator: Operator, ty: ScalarType, a: Word, b: Word) -> Answer {
+    match operator {
+        Operator::Unary(operation) => evaluate_unary(operation, a).into(),
+        Operator::Binary(operation) => evaluate_binary(operation, ty, a, b).into(),
     }
 }
 
-pub(crate) fn of_maybe_range(r: Option<Range>) -> Answer {
-    match r {
-        Some(range) => Answer::Interval(range),
-        None => Answer::Nothing,
-    }
-}
-
-fn of_evaluated(r: Result<Option<Word>, Refusal>) -> Answer {
-    match r {
-        Ok(Some(w)) => Answer::Pattern(w),
-        Ok(None) => Answer::Nothing,
-        Err(refusal) => Answer::Refused(refusal.number()),
-    }
-}
-
-fn unary_answer(code: u64, width: u16, value: Word) -> Answer {
-    let found = unary_named(code, width);
-    match found {
-        Some(operation) => of_evaluated(evaluate_unary(operation, value)),
-        None => Answer::Malformed,
-    }
-}
-
-fn binary_answer(code: u64, ty: ScalarType, a: Word, b: Word) -> Answer {
-    let found = binary_named(code);
-    match found {
-        Some(operation) => of_evaluated(evaluate_binary(operation, ty, a, b)),
-        None => Answer::Malformed,
-    }
-}
-
-fn first_range(operands: Operands) -> Range {
-    let a = operands.a;
-    let b = operands.b;
+fn range_of(min: Word, max: Word) -> Range {
     Range {
-        min: a.as_signed(),
-        max: b.as_signed(),
+        min: min.as_signed(),
+        max: max.as_signed(),
     }
 }
 
-fn second_range(operands: Operands) -> Range {
-    let c = operands.c;
-    let d = operands.d;
-    Range {
-        min: c.as_signed(),
-        max: d.as_signed(),
-    }
-}
-
-pub(crate) fn answer_of(head: Head, operands: Operands) -> Answer {
-    let code = head.code;
-    let found = type_of(head.type_code, head.width);
-    let Some(ty) = found else {
-        return Answer::Malformed;
-    };
-    if code < BINARY {
-        return unary_answer(code, head.width, operands.a);
-    }
+// A code that no question has is malformed.
+pub(crate) fn answer_of(vector: Vector) -> Option<Answer> {
+    let Vector {
+        code,
+        ty,
+        width,
+        a,
+        b,
+        c,
+        d,
+    } = vector;
+    let first = range_of(a, b);
+    let second = range_of(c, d);
     if code < RULES {
-        return binary_answer(code, ty, operands.a, operands.b);
-    }
-    let a = first_range(operands);
-    let b = second_range(operands);
-    if code < FUNCTIONS {
-        rule_answer(code - RULES, ty, a, b)
+        Some(evaluated(operator_of(code, width)?, ty, a, b))
+    } else if code < FUNCTIONS {
+        rule_answer(operator_of(code - RULES, width)?, ty, first, second)
     } else {
-        function_answer(code - FUNCTIONS, ty, a, b)
+        function_answer(code - FUNCTIONS, ty, first, second)
     }
 }

@@ -3,19 +3,18 @@ use evaluate::code::{BITS, BOOL, INTEGER, binary_of, is_binary_code, is_unary_co
 use evaluate::{Binary, Unary};
 use range::ScalarType;
 
-// The operator of a unary code, with that parameter.
-pub(crate) fn unary_named(code: u64, width: u16) -> Option<Unary> {
-    if is_unary_code(code, 0) {
-        Some(unary_of(code, width))
-    } else {
-        None
-    }
+#[derive(Clone, Copy)]
+pub(crate) enum Operator {
+    Unary(Unary),
+    Binary(Binary),
 }
 
-// The operator of a binary code.
-pub(crate) fn binary_named(code: u64) -> Option<Binary> {
-    if is_binary_code(code) {
-        Some(binary_of(code))
+// The operator of a code, with that width where it takes one.
+pub(crate) fn operator_of(code: u64, width: u16) -> Option<Operator> {
+    if is_unary_code(code, 0) {
+        Some(Operator::Unary(unary_of(code, width)))
+    } else if is_binary_code(code) {
+        Some(Operator::Binary(binary_of(code)))
     } else {
         None
     }

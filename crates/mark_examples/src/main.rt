@@ -2,8 +2,9 @@
 // alias to a Refine that stood before the mark is taken back.
 #![tactic(auto)]
 
+use answer::Refusal;
 use evaluate::Binary;
-use graph::layout::REGION;
+use graph::layout::{REGION, Region};
 use graph::{InputId, NodeId};
 use mark::layout::MARKS;
 use mark::retain_nodes::retain;
@@ -12,7 +13,6 @@ use native::{Answer, by_name, reading};
 use range::ScalarType;
 use std::io::{Stdout, Write};
 use word::Word;
-use answer::Refusal;
 
 // An answer as one byte: a number below ten is its digit, Done is d, None and a refusal are n and r.
 fn letter(answer: Result<Answer, Refusal>) -> u8 {
@@ -26,13 +26,14 @@ fn letter(answer: Result<Answer, Refusal>) -> u8 {
 
 fn digit(number: u64) -> u8 {
     match number {
-        0 => b'0',
-        1 => b'1',
-        2 => b'2',
-        3 => b'3',
-        4 => b'4',
+        0..=9 => b'0' + number as u8,
         _ => b'?',
     }
+}
+
+// The same of an answer that is a number or a refusal.
+fn number(answer: Result<u64, Refusal>) -> u8 {
+    answer.map_or(b'?', digit)
 }
 
 fn say(mut stdout: Stdout, byte: u8) {
@@ -41,7 +42,7 @@ fn say(mut stdout: Stdout, byte: u8) {
 }
 
 // Is input 0 below 5? The node of the question is 2 unless what is known decides it.
-fn is_below(g: &mut [u64]) -> Result<Answer, Refusal> {
+fn is_below(g: &mut Region) -> Result<Answer, Refusal> {
     by_name::binary(
         g,
         ScalarType::Bool,
@@ -52,35 +53,32 @@ fn is_below(g: &mut [u64]) -> Result<Answer, Refusal> {
 }
 
 // Nodes 0, 1 and 2: an input, a constant, and the question.
-fn begin(stdout: Stdout, g: &mut [u64]) {
+fn begin(stdout: Stdout, g: &mut Region) {
     let bits = ScalarType::Bits(8);
     let five = Word { lo: 5, hi: 0 };
-    say(
-        stdout,
-        letter(by_name::input(g, InputId(0), bits, None)),
-    );
+    say(stdout, letter(by_name::input(g, InputId(0), bits, None)));
     say(stdout, letter(by_name::constant(g, bits, five)));
     say(stdout, letter(is_below(g)));
 }
 
-fn set_mark(stdout: Stdout, g: &[u64], m: &mut [u64]) {
-    say(stdout, digit(calls::mark(g, m).number()));
+fn set_mark(stdout: Stdout, g: &Region, m: &mut [u64; MARKS]) {
+    say(stdout, number(calls::mark(g, m).map(|mark| mark.0)));
 }
 
-fn assume(stdout: Stdout, g: &mut [u64]) {
+fn assume(stdout: Stdout, g: &mut Region) {
     say(stdout, letter(by_name::assume_guard(g, NodeId(2), true)));
 }
 
-fn go_back(stdout: Stdout, g: &mut [u64], m: &mut [u64]) {
+fn go_back(stdout: Stdout, g: &mut Region, m: &mut [u64; MARKS]) {
     say(stdout, letter(calls::return_to(g, m, MarkId(0))));
 }
 
-fn resolved(stdout: Stdout, g: &[u64]) {
+fn resolved(stdout: Stdout, g: &Region) {
     say(stdout, letter(reading::resolve(g, NodeId(0))));
 }
 
 // In the arm the question is decided; after the return it is the node again.
-fn arm(stdout: Stdout, g: &mut [u64], m: &mut [u64]) {
+fn arm(stdout: Stdout, g: &mut Region, m: &mut [u64; MARKS]) {
     set_mark(stdout, g, m);
     assume(stdout, g);
     say(stdout, letter(is_below(g)));
@@ -89,11 +87,11 @@ fn arm(stdout: Stdout, g: &mut [u64], m: &mut [u64]) {
 }
 
 // A retain of all nodes clears the aliases and keeps the Refine, which the guard finds again.
-fn old_refine(stdout: Stdout, g: &mut [u64], m: &mut [u64]) {
+fn old_refine(stdout: Stdout, g: &mut Region, m: &mut [u64; MARKS]) {
     assume(stdout, g);
     let keep = [1u8; 4];
     let mut mapping = [0u64; 4];
-    say(stdout, digit(retain(g, m, &keep, &mut mapping).number()));
+    say(stdout, number(retain(g, m, &keep, &mut mapping)));
     set_mark(stdout, g, m);
     assume(stdout, g);
     resolved(stdout, g);

@@ -1,81 +1,67 @@
 // The text of an answer. After a call's own answer stand the sums of all words.
-ghost use Rattle.std.specs.Prelude.{◌≡◌, ◌+◌, ◌≤◌, length};
+ghost use Rattle.std.specs.Prelude.{◌≡◌, ◌+◌, ◌≤◌, IfSome, length};
 
 use crate::calls::{Outcome, Reply, perform};
-use crate::lines::fields_of;
-use crate::region::sums_of;
-use text::put_text_in_room;
-use vector_lines::put_word_in_room;
+use crate::guards::packed;
+use crate::lines::call_of;
+use crate::region::{Words, sums_of};
+use answer::Refusal;
+use native::Answer;
+use text::{put_decimal, put_text_in_room};
+use vector_lines::{put_word_in_room, put_word_line};
 use word::Word;
 
-// Puts text of up to 20 bytes at `at`, and answers where it ends.
-fn put_short(text: &[u8], out: &mut [u8], at: usize) -> usize
-    requires { at + 20 ≤ length out.old }
-    ensures { result ≤ at + 20 }
+// The most bytes of an answer.
+pub(crate) const ROOM: usize = 72;
+
+// Puts a name and a number's decimal digits at the start of out, and answers where they end.
+fn put_numbered(name: &[u8], number: u64, out: &mut [u8; ROOM]) -> usize
+    requires { length name.now ≤ 8 }
+    ensures { result ≤ 28 }
 {
-    if 20 < text.len() {
-        return at;
-    }
-    put_text_in_room(text, out, at)
+    let at = put_text_in_room(name, out, 0);
+    put_decimal(number, out, at)
 }
 
-// Puts a number's decimal digits at `at`, and answers where they end.
-fn put_decimal(n: u64, out: &mut [u8], at: usize) -> usize
-    requires { at + 20 ≤ length out.old }
-    ensures { result ≤ at + 20 }
+// Puts a name of six bytes and a word at the start of out, and answers where they end.
+fn put_named(name: &[u8; 6], word: Word, out: &mut [u8; ROOM]) -> usize
+    ensures { result ≡ 38 }
 {
-    let mut digits = [0u8; 20];
-    let count = io::decimal(n, &mut digits);
-    put_short(&digits[..count], out, at)
+    let at = put_text_in_room(name, out, 0);
+    put_word_in_room(word, out, at)
 }
 
 // Puts what a call answered at the start of out, and answers where it ends.
-fn put_reply(reply: Reply, out: &mut [u8]) -> usize
-    requires { 72 ≤ length out.old }
+fn put_reply(reply: Result<Reply, Refusal>, out: &mut [u8; ROOM]) -> usize
     ensures { result ≤ 38 }
 {
     match reply {
-        Reply::Id(id) => {
-            let at = put_text_in_room(b"id ", out, 0);
-            put_decimal(id, out, at)
+        Ok(Reply::Answer(Answer::Id(id))) => put_numbered(b"id ", id.0, out),
+        Ok(Reply::Kept(nodes)) => put_numbered(b"kept ", nodes, out),
+        Ok(Reply::Value(Some(value))) => put_named(b"value ", value, out),
+        Ok(Reply::Guard(Some(guard))) => put_named(b"guard ", packed(guard), out),
+        Ok(Reply::Answer(Answer::None) | Reply::Value(None) | Reply::Guard(None)) => {
+            put_text_in_room(b"none", out, 0)
         }
-        Reply::Value(value) => {
-            let at = put_text_in_room(b"value ", out, 0);
-            put_word_in_room(value, out, at)
-        }
-        Reply::None => put_text_in_room(b"none", out, 0),
-        Reply::Refused(number) => {
-            let at = put_text_in_room(b"refused ", out, 0);
-            put_decimal(number, out, at)
-        }
-        Reply::Kept(nodes) => {
-            let at = put_text_in_room(b"kept ", out, 0);
-            put_decimal(nodes, out, at)
-        }
-        Reply::Done => put_text_in_room(b"done", out, 0),
-        Reply::Guard(guard) => {
-            let at = put_text_in_room(b"guard ", out, 0);
-            put_word_in_room(guard, out, at)
-        }
-        Reply::Yes => put_text_in_room(b"yes", out, 0),
-        Reply::No => put_text_in_room(b"no", out, 0),
+        Ok(Reply::Answer(Answer::Done)) => put_text_in_room(b"done", out, 0),
+        Ok(Reply::Truth(true)) => put_text_in_room(b"yes", out, 0),
+        Ok(Reply::Truth(false)) => put_text_in_room(b"no", out, 0),
+        Err(refusal) => put_numbered(b"refused ", refusal.number(), out),
     }
 }
 
 // Puts a space, a word and a line end at `at`, and answers where it ends.
-fn put_last(word: Word, out: &mut [u8], at: usize) -> usize
-    requires { at + 34 ≤ length out.old }
+fn put_last(word: Word, out: &mut [u8; ROOM], at: usize) -> usize
+    requires { at ≤ 38 }
     ensures { result ≡ at + 34 }
 {
     let start = put_text_in_room(b" ", out, at);
-    let end = put_word_in_room(word, out, start);
-    put_text_in_room(b"\n", out, end)
+    put_word_line(word, out, start)
 }
 
-// Puts the answer's line at the start of out, and answers where it ends. A malformed line has no answer.
-fn put_outcome(outcome: Outcome, words: &[u64], out: &mut [u8]) -> usize
-    requires { 72 ≤ length out.old }
-    ensures { result ≤ 72 }
+// Puts the answer's line at the start of out, and answers where it ends.
+fn put_outcome(outcome: Outcome, words: &Words, out: &mut [u8; ROOM]) -> usize
+    ensures { result ≤ ROOM }
 {
     match outcome {
         Outcome::Answered(reply) => {
@@ -83,25 +69,17 @@ fn put_outcome(outcome: Outcome, words: &[u64], out: &mut [u8]) -> usize
             put_last(sums_of(words), out, end)
         }
         Outcome::Words(a, b) => {
-            let start = put_text_in_room(b"words", out, 0);
-            let middle = put_text_in_room(b" ", out, start);
-            let end = put_word_in_room(a, out, middle);
+            let end = put_named(b"words ", a, out);
             put_last(b, out, end)
         }
         Outcome::Done => put_text_in_room(b"done\n", out, 0),
-        Outcome::Malformed => 0,
     }
 }
 
-// Performs the call of a line and puts its answer at the start of out, and answers where it ends: at 0 where the line is malformed.
-pub(crate) fn put_answer_to(line: &[u8], words: &mut [u64], out: &mut [u8]) -> usize
-    requires { 72 ≤ length out.old }
-    ensures { result ≤ 72 }
+// Performs the call of a line and puts its answer at the start of out, and answers where it ends. A malformed line has no answer.
+pub(crate) fn put_answer_to(line: &[u8], words: &mut Words, out: &mut [u8]) -> Option<usize>
+    ensures { IfSome result (λ end. end ≤ length out.old) }
 {
-    let read = fields_of(line);
-    let Some(call) = read else {
-        return 0;
-    };
-    let outcome = perform(words, call);
-    put_outcome(outcome, words, out)
+    let outcome = perform(words, call_of(line.as_array()?)?)?;
+    Some(put_outcome(outcome, words, out.first_chunk_mut()?))
 }

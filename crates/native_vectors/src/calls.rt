@@ -1,42 +1,34 @@
-// The calls by their kinds: 1 to 10 are document 01's records, 11 to 15 literal, resolve, is_graph, guard and matches, and from 16 on the words
-// are handled.
+// The calls by their kinds: 1 to 10 are the records of docs/RECORDS.md, 11 to 15 literal, resolve, is_graph, guard and matches, and from 16
+// on the words are handled. A kind's number stands only here and in guards.rt, beside the call that it means.
 use crate::guards::guarded;
-use crate::lines::Fields;
-use crate::region::{peek, poke, zero};
+use crate::lines::Call;
+use crate::region::{Words, peek, poke};
 use crate::retains::retained;
+use answer::Refusal;
 use evaluate::code::{BITS, BOOL, INTEGER, binary_of, unary_of};
-use graph::layout::REGION;
 use graph::well_formed::is_graph;
 use graph::{EffectId, InputId, NodeId};
+use guard::Guard;
 use native::{Answer, by_name, reading};
 use range::{Range, ScalarType};
 use word::Word;
-use answer::Refusal;
 
-// The last word from which four can be asked for.
-const LAST: u64 = (REGION - 3) as u64;
-
-// What a call answers.
+// What a call answers that is not refused.
 #[derive(Clone, Copy)]
 pub(crate) enum Reply {
-    Id(u64),
-    Value(Word),
-    None,
-    Refused(u64),
+    Answer(Answer),
+    Value(Option<Word>),
+    Guard(Option<Guard>),
+    Truth(bool),
     Kept(u64),
-    Done,
-    Guard(Word),
-    Yes,
-    No,
 }
 
-// What becomes of a line. A kind, type or length that there is not is malformed.
+// What becomes of a line that is well formed.
 #[derive(Clone, Copy)]
 pub(crate) enum Outcome {
-    Answered(Reply),
+    Answered(Result<Reply, Refusal>),
     Words(Word, Word),
     Done,
-    Malformed,
 }
 
 fn type_of(code: u64, width: u16) -> Option<ScalarType> {
@@ -48,162 +40,89 @@ fn type_of(code: u64, width: u16) -> Option<ScalarType> {
     }
 }
 
-fn range_of(flag: u64, min: Word, max: Word) -> Option<Range> {
-    if flag == 0 {
+// The range of an input, where the flag says that there is one.
+fn range_of(call: Call) -> Option<Range> {
+    if call.flag == 0 {
         return None;
     }
     Some(Range {
-        min: min.as_signed(),
-        max: max.as_signed(),
+        min: call.a.as_signed(),
+        max: call.b.as_signed(),
     })
 }
 
-pub(crate) fn of_answer(answer: Result<Answer, Refusal>) -> Reply {
-    match answer {
-        Ok(Answer::Id(id)) => Reply::Id(id.0),
-        Ok(Answer::None) => Reply::None,
-        Ok(Answer::Done) => Reply::Done,
-        Err(refusal) => Reply::Refused(refusal.number()),
-    }
+fn unary(g: &mut [u64], ty: ScalarType, call: Call) -> Result<Answer, Refusal> {
+    let op = unary_of(call.flag, (call.a.lo % 65536) as u16);
+    by_name::unary(g, ty, op, NodeId(call.number))
 }
 
-fn of_evaluated(answer: Result<Option<Word>, Refusal>) -> Reply {
-    match answer {
-        Ok(Some(value)) => Reply::Value(value),
-        Ok(None) => Reply::None,
-        Err(refusal) => Reply::Refused(refusal.number()),
-    }
+fn binary(g: &mut [u64], ty: ScalarType, call: Call) -> Result<Answer, Refusal> {
+    let op = binary_of(call.flag);
+    by_name::binary(g, ty, op, NodeId(call.number), NodeId(call.a.lo))
 }
 
-pub(crate) fn of_bool(is: bool) -> Reply {
-    if is { Reply::Yes } else { Reply::No }
-}
-
-// The calls that declare a leaf.
-fn declared(g: &mut [u64], call: Fields) -> Outcome {
-    let named = type_of(call.type_code, call.width);
-    let Some(ty) = named else {
-        return Outcome::Malformed;
-    };
-    let kind = call.kind;
-    let number = call.number;
-    let reply = match kind {
-        1 => of_answer(by_name::constant(g, ty, call.a)),
-        2 => {
-            let range = range_of(call.flag, call.a, call.b);
-            of_answer(by_name::input(g, InputId(number), ty, range))
-        }
-        _ => of_answer(by_name::effect(g, EffectId(number), ty)),
-    };
-    Outcome::Answered(reply)
-}
-
-// An operator by its code: Add for a code that there is not, as a region reads it.
-fn operated(g: &mut [u64], call: Fields) -> Outcome {
-    let named = type_of(call.type_code, call.width);
-    let Some(ty) = named else {
-        return Outcome::Malformed;
-    };
-    let a = call.a;
-    let id = NodeId(call.number);
-    let kind = call.kind;
-    let reply = match kind {
-        4 => {
-            let op = unary_of(call.flag, (a.lo % 65536) as u16);
-            of_answer(by_name::unary(g, ty, op, id))
-        }
-        _ => {
-            let op = binary_of(call.flag);
-            of_answer(by_name::binary(g, ty, op, id, NodeId(a.lo)))
-        }
-    };
-    Outcome::Answered(reply)
+// The calls that have a type. An operator's code that there is not is read as a region reads it.
+fn typed(g: &mut [u64], call: Call) -> Option<Result<Answer, Refusal>> {
+    let ty = type_of(call.type_code, call.width)?;
+    Some(match call.kind {
+        1 => by_name::constant(g, ty, call.a),
+        2 => by_name::input(g, InputId(call.number), ty, range_of(call)),
+        3 => by_name::effect(g, EffectId(call.number), ty),
+        4 => unary(g, ty, call),
+        _ => binary(g, ty, call),
+    })
 }
 
 // slice, concat and unsigned_range.
-fn parted(g: &mut [u64], call: Fields) -> Outcome {
-    let a = call.a;
-    let b = call.b;
+fn parted(g: &mut [u64], call: Call) -> Result<Answer, Refusal> {
     let id = NodeId(call.number);
-    let width = call.width;
-    let kind = call.kind;
-    let reply = match kind {
-        6 => of_answer(by_name::slice(g, id, (a.lo % 65536) as u16, width)),
-        7 => of_answer(by_name::concat(g, id, NodeId(a.lo), (b.lo % 65536) as u16, width)),
-        _ => of_answer(by_name::unsigned_range(g, id, a, b)),
-    };
-    Outcome::Answered(reply)
-}
-
-fn kept(words: &mut [u64], call: Fields) -> Outcome {
-    let answer = retained(words, call);
-    match answer {
-        Some(reply) => Outcome::Answered(reply),
-        None => Outcome::Malformed,
+    match call.kind {
+        6 => by_name::slice(g, id, (call.a.lo % 65536) as u16, call.width),
+        7 => by_name::concat(
+            g,
+            id,
+            NodeId(call.a.lo),
+            (call.b.lo % 65536) as u16,
+            call.width,
+        ),
+        _ => by_name::unsigned_range(g, id, call.a, call.b),
     }
 }
 
 // The calls that read.
-fn looked(g: &[u64], kind: u64, id: u64) -> Outcome {
-    let reply = match kind {
-        11 => of_evaluated(reading::literal(g, NodeId(id))),
-        12 => of_answer(reading::resolve(g, NodeId(id))),
-        _ => of_bool(is_graph(g)),
-    };
-    Outcome::Answered(reply)
+fn looked(g: &[u64], call: Call) -> Result<Reply, Refusal> {
+    let id = NodeId(call.number);
+    match call.kind {
+        11 => reading::literal(g, id).map(Reply::Value),
+        12 => reading::resolve(g, id).map(Reply::Answer),
+        _ => Ok(Reply::Truth(is_graph(g))),
+    }
 }
 
 // What handles the words, whatever the length given.
-fn handled(words: &mut [u64], call: Fields) -> Outcome {
-    let kind = call.kind;
-    let at = call.number;
-    match kind {
+fn handled(words: &mut Words, call: Call) -> Option<Outcome> {
+    let at = call.number as usize;
+    match call.kind {
         16 => {
-            zero(words);
-            Outcome::Done
+            words.fill(0);
+            Some(Outcome::Done)
         }
-        17 => {
-            if poke(words, at, call.a, call.b) {
-                Outcome::Done
-            } else {
-                Outcome::Malformed
-            }
-        }
-        18 => words_from(words, at),
-        _ => Outcome::Malformed,
+        17 => poke(words, at, call.a, call.b).map(|_| Outcome::Done),
+        18 => peek(words, at).map(|(a, b)| Outcome::Words(a, b)),
+        _ => None,
     }
 }
 
-// Four words from `at` on.
-fn words_from(words: &[u64], at: u64) -> Outcome {
-    if LAST < at {
-        return Outcome::Malformed;
-    }
-    let a = Word {
-        lo: peek(words, at),
-        hi: peek(words, at + 1),
+// Performs the call on the first words, as many as it says. A kind, type or length that there is not is malformed.
+pub(crate) fn perform(words: &mut Words, call: Call) -> Option<Outcome> {
+    let g = words.get_mut(..call.len)?;
+    let reply = match call.kind {
+        1..=5 => typed(g, call)?.map(Reply::Answer),
+        6..=8 => parted(g, call).map(Reply::Answer),
+        9 | 14..=15 => guarded(g, call),
+        10 => retained(words, call)?.map(Reply::Kept),
+        11..=13 => looked(g, call),
+        _ => return handled(words, call),
     };
-    let b = Word {
-        lo: peek(words, at + 2),
-        hi: peek(words, at + 3),
-    };
-    Outcome::Words(a, b)
-}
-
-// Performs the call on the first words, as many as it says.
-pub(crate) fn perform(words: &mut [u64], call: Fields) -> Outcome {
-    let kind = call.kind;
-    let len = call.len as usize;
-    if words.len() < len {
-        return Outcome::Malformed;
-    }
-    match kind {
-        1..=3 => declared(&mut words[0..len], call),
-        4..=5 => operated(&mut words[0..len], call),
-        6..=8 => parted(&mut words[0..len], call),
-        9 | 14..=15 => Outcome::Answered(guarded(&mut words[0..len], call)),
-        10 => kept(words, call),
-        11..=13 => looked(&words[0..len], kind, call.number),
-        _ => handled(words, call),
-    }
+    Some(Outcome::Answered(reply))
 }

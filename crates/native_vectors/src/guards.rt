@@ -3,21 +3,21 @@
 ghost use Rattle.std.specs.Prelude.{◌≡◌, ◌+◌, ◌*◌, ◌%◌, ◌^◌, if◌then◌else◌};
 ghost use Rattle.evaluate.specs.Operator.{binary_code};
 
-use crate::calls::{Reply, of_answer, of_bool};
-use crate::lines::Fields;
+use crate::calls::Reply;
+use crate::lines::Call;
+use answer::Refusal;
 use evaluate::code::binary_of;
 use graph::NodeId;
 use guard::Guard;
 use native::by_name::assume_guard;
 use native::reading::guard;
 use word::Word;
-use answer::Refusal;
 
 // One more than the largest id that a guard's word has room for.
 const IDS: u64 = 0x1_0000_0000;
 
 // A guard as one word: the ids in the low half, and in the high half the operator's code, what is expected and whether 64 bits suffice.
-fn packed(guard: Guard) -> Word
+pub(crate) fn packed(guard: Guard) -> Word
     ensures hi_value { result.hi ≡ binary_code guard.operation * 65536 + (if guard.expected then 1 else 0) * 256 + (if guard.host64 then 1 else 0) }
     ensures lo_value { result.lo ≡ guard.left.0 % 2 ^ 32 * 2 ^ 32 + guard.right.0 % 2 ^ 32 }
 {
@@ -28,23 +28,8 @@ fn packed(guard: Guard) -> Word
     }
 }
 
-fn of_guarded(answer: Result<Option<Guard>, Refusal>) -> Reply {
-    match answer {
-        Ok(Some(found)) => Reply::Guard(packed(found)),
-        Ok(None) => Reply::None,
-        Err(refusal) => Reply::Refused(refusal.number()),
-    }
-}
-
-fn of_matched(answer: Result<bool, Refusal>) -> Reply {
-    match answer {
-        Ok(is) => of_bool(is),
-        Err(refusal) => Reply::Refused(refusal.number()),
-    }
-}
-
 // Whether the two words match a guard. Of the guard's ids nothing is asked.
-fn matched(call: Fields) -> Reply {
+fn matched(call: Call) -> Result<bool, Refusal> {
     let guard = Guard {
         operation: binary_of(call.flag),
         left: NodeId(0),
@@ -52,16 +37,15 @@ fn matched(call: Fields) -> Reply {
         expected: call.number != 0,
         host64: call.width != 0,
     };
-    of_matched(guard.matches(call.a, call.b))
+    guard.matches(call.a, call.b)
 }
 
-pub(crate) fn guarded(g: &mut [u64], call: Fields) -> Reply {
-    let kind = call.kind;
+pub(crate) fn guarded(g: &mut [u64], call: Call) -> Result<Reply, Refusal> {
     let id = NodeId(call.number);
     let expected = call.flag != 0;
-    match kind {
-        9 => of_answer(assume_guard(g, id, expected)),
-        14 => of_guarded(guard(g, id, expected)),
-        _ => matched(call),
+    match call.kind {
+        9 => assume_guard(g, id, expected).map(Reply::Answer),
+        14 => guard(g, id, expected).map(Reply::Guard),
+        _ => matched(call).map(Reply::Truth),
     }
 }

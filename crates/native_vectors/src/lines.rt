@@ -3,11 +3,14 @@
 use vector_lines::{number_of, word_of};
 use word::Word;
 
+// The bytes of a line.
+pub(crate) const LINE: usize = 102;
+
 // The fields of a call. What its kind does not use is not looked at.
 #[derive(Clone, Copy)]
-pub(crate) struct Fields {
+pub(crate) struct Call {
     pub kind: u64,
-    pub len: u64,
+    pub len: usize,
     pub number: u64,
     pub type_code: u64,
     pub width: u16,
@@ -16,94 +19,23 @@ pub(crate) struct Fields {
     pub b: Word,
 }
 
-// The fields but the operands.
-#[derive(Clone, Copy)]
-struct Numbers {
-    kind: u64,
-    len: u64,
-    number: u64,
-    type_code: u64,
-    width: u16,
-    flag: u64,
-}
-
-// Hex digits and a space.
-fn field_of(text: &[u8]) -> Option<u64> {
-    if text.len() == 0 {
-        return None;
-    }
-    let end = text.len() - 1;
-    if text[end] != b' ' {
-        return None;
-    }
-    number_of(&text[0..end])
-}
-
-// 32 hex digits and what stands after them.
-fn operand_of(text: &[u8], after: u8) -> Option<Word> {
-    if text.len() != 33 {
-        return None;
-    }
-    if text[32] != after {
-        return None;
-    }
-    word_of(&text[0..32])
-}
-
-// The numbers before the operands.
-fn numbers_of(text: &[u8]) -> Option<Numbers> {
-    if text.len() != 36 {
-        return None;
-    }
-    let Some(kind) = field_of(&text[0..3]) else {
-        return None;
-    };
-    let Some(len) = field_of(&text[3..8]) else {
-        return None;
-    };
-    let Some(number) = field_of(&text[8..25]) else {
-        return None;
-    };
-    let Some(type_code) = field_of(&text[25..28]) else {
-        return None;
-    };
-    let Some(width) = field_of(&text[28..33]) else {
-        return None;
-    };
-    let Some(flag) = field_of(&text[33..36]) else {
-        return None;
-    };
-    Some(Numbers {
-        kind: kind,
-        len: len,
-        number: number,
-        type_code: type_code,
-        width: (width % 65536) as u16,
-        flag: flag,
-    })
-}
-
-pub(crate) fn fields_of(line: &[u8]) -> Option<Fields> {
-    if line.len() != 102 {
-        return None;
-    }
-    let Some(numbers) = numbers_of(&line[0..36]) else {
-        return None;
-    };
-    let Some(a) = operand_of(&line[36..69], b' ') else {
-        return None;
-    };
-    let Some(b) = operand_of(&line[69..102], b'\n') else {
-        return None;
-    };
-    Some(Fields {
-        kind: numbers.kind,
-        len: numbers.len,
-        number: numbers.number,
-        type_code: numbers.type_code,
-        width: numbers.width,
-        flag: numbers.flag,
-        a: a,
-        b: b,
+pub(crate) fn call_of(line: &[u8; LINE]) -> Option<Call> {
+    let kind = number_of(line[..3].strip_suffix(b" ")?)?;
+    let len = number_of(line[3..8].strip_suffix(b" ")?)? as usize;
+    let number = number_of(line[8..25].strip_suffix(b" ")?)?;
+    let type_code = number_of(line[25..28].strip_suffix(b" ")?)?;
+    let width = (number_of(line[28..33].strip_suffix(b" ")?)? % 65536) as u16;
+    let flag = number_of(line[33..36].strip_suffix(b" ")?)?;
+    let a = word_of(line[36..69].strip_suffix(b" ")?)?;
+    let b = word_of(line[69..].strip_suffix(b"\n")?)?;
+    Some(Call {
+        kind,
+        len,
+        number,
+        type_code,
+        width,
+        flag,
+        a,
+        b,
     })
 }

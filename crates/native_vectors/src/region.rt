@@ -1,56 +1,34 @@
-// The words of the region from outside: zeroed, set, shown and summed.
-use std::num::wrapping_add_u64;
+// The words that calls work on, from outside: zeroed, set, shown and summed.
+use graph::layout::REGION;
 use word::Word;
 
-pub(crate) fn zero(words: &mut [u64]) {
-    let mut i = 0;
-    while i < words.len() {
-        words[i] = 0;
-        i += 1;
-    }
+// The words: the region's, one past its end, and from MAPPING on those for the mapping of a retain.
+pub(crate) type Words = [u64; WORDS];
+
+pub(crate) const MAPPING: usize = REGION + 1;
+
+pub(crate) const WORDS: usize = MAPPING + 256;
+
+// Sets four words from `at` on, if there are four.
+pub(crate) fn poke(words: &mut Words, at: usize, a: Word, b: Word) -> Option<()> {
+    let four = words.get_mut(at..)?.first_chunk_mut::<4>()?;
+    *four = [a.lo, a.hi, b.lo, b.hi];
+    Some(())
 }
 
-// Sets four words from `at` on, and answers whether there are four.
-pub(crate) fn poke(words: &mut [u64], at: u64, a: Word, b: Word) -> bool {
-    let len = words.len();
-    if len < 4 {
-        return false;
-    }
-    let last = (len - 4) as u64;
-    if last < at {
-        return false;
-    }
-    let i = at as usize;
-    words[i] = a.lo;
-    words[i + 1] = a.hi;
-    words[i + 2] = b.lo;
-    words[i + 3] = b.hi;
-    true
-}
-
-// Sets one word, if there is one at `at`.
-pub(crate) fn put(words: &mut [u64], at: u64, word: u64) {
-    let len = words.len() as u64;
-    if at < len {
-        words[at as usize] = word;
-    }
-}
-
-// The word at `at`, or 0 past the end.
-pub(crate) fn peek(words: &[u64], at: u64) -> u64 {
-    let len = words.len() as u64;
-    if at < len { words[at as usize] } else { 0 }
+// Four words from `at` on, none of them past the one behind the region.
+pub(crate) fn peek(words: &Words, at: usize) -> Option<(Word, Word)> {
+    let &[a_lo, a_hi, b_lo, b_hi] = words[..MAPPING].get(at..)?.first_chunk::<4>()?;
+    Some((Word { lo: a_lo, hi: a_hi }, Word { lo: b_lo, hi: b_hi }))
 }
 
 // The sum of the words, and above it the sum of the sums on the way, both modulo 2^64.
-pub(crate) fn sums_of(words: &[u64]) -> Word {
-    let mut sum = 0;
-    let mut sums = 0;
-    let mut i = 0;
-    while i < words.len() {
-        sum = wrapping_add_u64(sum, words[i]);
-        sums = wrapping_add_u64(sums, sum);
-        i += 1;
+pub(crate) fn sums_of(words: &Words) -> Word {
+    let mut sum: u64 = 0;
+    let mut sums: u64 = 0;
+    for &word in words {
+        sum = sum.wrapping_add(word);
+        sums = sums.wrapping_add(sum);
     }
     Word { lo: sum, hi: sums }
 }

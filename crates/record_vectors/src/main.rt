@@ -21,11 +21,7 @@ fn record_length(bytes: &[u8]) -> usize
     requires { 0 < length bytes.now }
     ensures { (0 < result) × (result ≤ length bytes.now) }
 {
-    let first = first_length(bytes);
-    match first {
-        Some(len) => len,
-        None => bytes.len(),
-    }
+    first_length(bytes).unwrap_or(bytes.len())
 }
 
 // The bytes of a line, and whether there may be another record after it.
@@ -35,17 +31,13 @@ struct Told {
     goes_on: bool,
 }
 
-fn tell(g: &mut [u64], mapping: &mut [u64], bytes: &[u8], line: &mut [u8]) -> Told
+fn tell(g: &mut Region, mapping: &mut [u64; NODES], bytes: &[u8], line: &mut [u8]) -> Told
     ensures { result.len ≤ length line.old }
 {
-    let step = perform(g, mapping, bytes, line);
-    match step {
-        Step::Line(n) => Told {
-            len: n,
-            goes_on: true,
-        },
-        Step::Last(n) => Told {
-            len: n,
+    match perform(g, mapping, bytes, line) {
+        Step::Line(len) => Told { len, goes_on: true },
+        Step::Last(len) => Told {
+            len,
             goes_on: false,
         },
         Step::NoRoom => Told {
@@ -56,19 +48,19 @@ fn tell(g: &mut [u64], mapping: &mut [u64], bytes: &[u8], line: &mut [u8]) -> To
 }
 
 // The lines of a stream but the last, and how many bytes they have.
-fn put_lines(g: &mut [u64], mapping: &mut [u64], stream: &[u8], out: &mut [u8]) -> usize
+fn put_lines(g: &mut Region, mapping: &mut [u64; NODES], stream: &[u8], out: &mut [u8]) -> usize
     ensures { result ≤ length out.old }
 {
-    let mut from = 0;
+    let mut rest = stream;
     let mut at = 0;
-    while from < stream.len() {
-        let end = from + record_length(&stream[from..]);
-        let told = tell(g, mapping, &stream[from..end], &mut out[at..]);
+    while !rest.is_empty() {
+        let (bytes, after) = rest.split_at(record_length(rest));
+        let told = tell(g, mapping, bytes, &mut out[at..]);
         at += told.len;
         if !told.goes_on {
             return at;
         }
-        from = end;
+        rest = after;
     }
     at
 }
@@ -91,39 +83,23 @@ fn put_stream(stream: &[u8], out: &mut [u8]) -> usize
     put_text(b"\n", out, end)
 }
 
-// A number of four bytes.
-fn length_of(header: &[u8]) -> usize
-    requires { length header.now ≡ 4 }
-{
-    header[0] as usize
-        + 256 * (header[1] as usize)
-        + 65536 * (header[2] as usize)
-        + 16777216 * (header[3] as usize)
-}
-
-// Replays a stream, and answers whether there may be more.
-fn replay_stream(mut stdin: Stdin, mut stdout: Stdout) -> bool {
+// Replays a stream, if there is one that is well formed.
+fn replay_stream(mut stdin: Stdin, mut stdout: Stdout) -> Option<()> {
     let mut header = [0u8; 4];
-    if stdin.read_exact(&mut header).is_err() {
-        return false;
-    }
-    let len = length_of(&header);
-    let mut stream = [0u8; STREAM];
-    if STREAM < len {
-        return false;
-    }
-    if stdin.read_exact(&mut stream[0..len]).is_err() {
-        return false;
-    }
+    stdin.read_exact(&mut header).ok()?;
+    let mut room = [0u8; STREAM];
+    let stream = room.get_mut(..u32::from_le_bytes(header) as usize)?;
+    stdin.read_exact(stream).ok()?;
     let mut out = [0u8; LINES];
-    let end = put_stream(&stream[0..len], &mut out);
-    stdout.write_all(&out[0..end]).is_ok()
+    let end = put_stream(stream, &mut out);
+    stdout.write_all(&out[..end]).ok()
 }
 
-// A proved loop has to end: it counts its turns down, from a number that no run uses up.
 fn main(rt: HostRuntime) {
-    let mut turns = u64::MAX;
-    while turns > 0 && replay_stream(rt.stdin(), rt.stdout()) {
-        turns -= 1;
+    // A proved loop has to end: no run takes so many turns.
+    for _ in 0..u64::MAX {
+        if replay_stream(rt.stdin(), rt.stdout()).is_none() {
+            break;
+        }
     }
 }

@@ -1,18 +1,12 @@
 -- Laws of text in a slice. Assumes nothing.
 use mathlib.Core.List.{List, [], ◌∷◌, ◌++◌, append_assoc}
-use mathlib.Core.Path.{◌≡◌, refl, ap, ◌∙◌}
+use mathlib.Core.Path.{◌≡◌, ap, ◌∙◌}
 use Prim.Native.Nat.{ℕ, ◌+◌, ◌≤◌, ◌<◌}
 use native.Mathlib.Nat.{add_assoc, le_trans, le-add_right}
 use native.Mathlib.Numerals.{add-one}
-use borrow.Author.Tests.{le-leb, lt-leb}
 use lib.ListN.{length, take, drop, set, length-append}
-use lib.Seq.{paste, length-take-le, take-length, take_at, drop-append-add, drop-drop, append_snoc, set_split}
-use Rattle.text.specs.Text.{placed, end_of, placed_in}
-
--- all of a text copied
-pub pasted : (d : List ℕ) (at : ℕ) (s : List ℕ) → paste d at s (length s) ≡ placed d at s
-unfolding placed
-pasted d at s = rw (take-length s)
+use lib.Seq.{length-take-le, take_at, drop-append-add, drop-drop, append_snoc, set_split}
+use Rattle.text.specs.Text.{placed}
 
 -- one text behind another
 pub placed-placed : (d : List ℕ) (at : ℕ) (s t : List ℕ) → at + length s ≤ length d
@@ -31,12 +25,3 @@ placed-placed d at s t room =
 pub set-placed : (d : List ℕ) (at v : ℕ) → at < length d → set d at v ≡ placed d at (v ∷ [])
 unfolding placed
 set-placed d at v room = rw (set_split d at v room, add-one at, append_snoc (take at d) v)
-
--- n bytes are written where there is room for them
-pub written : (d : List ℕ) (at n : ℕ) (s : List ℕ) {r : ℕ} {o : List ℕ} → at + n ≤ length d → r ≡ at + n → o ≡ placed d at s
-    → (r ≡ end_of d at n) × (o ≡ placed_in d at n s)
-written d at n s room e f = rw (le-leb (at + n) (length d) room) (e, f)
-
--- and else nothing is
-pub unwritten : (d : List ℕ) (at n : ℕ) (s : List ℕ) → length d < at + n → (at ≡ end_of d at n) × (d ≡ placed_in d at n s)
-unwritten d at n s full = rw (lt-leb (at + n) (length d) full) (refl, refl)

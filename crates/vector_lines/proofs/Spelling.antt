@@ -6,32 +6,19 @@ use mathlib.Core.Path.{◌≡◌, refl, sym, ap, ◌∙◌}
 use Prim.Native.Nat.{ℕ, zero, suc, ◌+◌, ◌-◌, ◌*◌, ◌/◌, ◌%◌, ◌^◌, ◌≤◌, ◌<◌}
 use native.Mathlib.Nat.{pow-suc, pow-le-pow_right, lt_of_lt_of_le, le_of_eq, add-zero, add-suc, suc-add, zero-add, zero-lt-suc, mul_assoc}
 use native.Mathlib.Omega.{arith}
-use borrow.Author.Tests.{lt-ltb, le-ltb}
 use lib.Arith.{digits_lt}
 use lib.Dec.{eqb, ltb, leb}
-use lib.ListN.{length, get_or, take, drop, take-append-drop, length-drop}
-use lib.Seq.{drop-cons, take_all, length-take-le}
+use lib.ListN.{length, take, drop, take-append-drop, length-drop}
+use lib.Seq.{take_all, length-take-le}
 use Rattle.word.specs.Option.{provided}
 use Rattle.io.specs.Digits.{last_digits, hex_digit_ascii}
 use Rattle.vector_lines.specs.Text.{digit_value, spelled_after, spelled, hex_digits}
 
--- ---- a number grows by a digit
+-- ---- a number of at most 16 digits
 
-pub grown : {n d : ℕ} (i : ℕ) → n < 16 ^ i → d < 16 → n * 16 + d < 16 ^ suc i
-grown {n} i f g = rw (pow-suc 16 i) (digits_lt {q = n} f g)
-
--- sixteen digits fit 64 bits
-pub fits : {n i : ℕ} → n < 16 ^ i → i ≤ 16 → n < 2 ^ 64
-fits f g = lt_of_lt_of_le f (pow-le-pow_right (zero-lt-suc 15) g)
-
--- ---- a digit is read
-
-pub digit_read : (n : ℕ) (l : List ℕ) (i : ℕ) → i < length l → digit_value (get_or l i 0) < 16
-    → spelled_after n (drop i l) ≡ spelled_after (n * 16 + digit_value (get_or l i 0)) (drop (suc i) l)
-digit_read n l i f g = rw (drop-cons l i 0 f, lt-ltb _ _ g)
-
-pub digit-missing : (n : ℕ) (l : List ℕ) (i : ℕ) → i < length l → 16 ≤ digit_value (get_or l i 0) → spelled_after n (drop i l) ≡ None
-digit-missing n l i f g = rw (drop-cons l i 0 f, le-ltb _ _ g)
+-- one more digit still fits 64 bits
+pub room : {n i : ℕ} → n < 16 ^ i → i < 16 → n * 16 + 15 < 2 ^ 64
+room {n} {i} f g = lt_of_lt_of_le (rw (pow-suc 16 i) (digits_lt {q = n} f (omega arith))) (pow-le-pow_right (zero-lt-suc 15) g)
 
 -- ---- digits are read in two parts
 

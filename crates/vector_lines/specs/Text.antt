@@ -1,6 +1,6 @@
 -- Numbers as hex digits.
 use Rattle.std.specs.Prelude.{cond, List, [], ◌∷◌, ℕ, ◌+◌, ◌-◌, ◌*◌, ltb}
-use Rattle.std.specs.Prelude.{Option, None, Some}
+use Rattle.std.specs.Prelude.{Option, Some}
 use Rattle.word.specs.Option.{provided}
 use Rattle.io.specs.Digits.{last_digits}
 
@@ -20,4 +20,3 @@ spelled l = spelled_after 0 l
 -- the last k hex digits of n
 unfoldable pub hex_digits : ℕ → ℕ → List ℕ
 hex_digits k n = last_digits 16 k n
-

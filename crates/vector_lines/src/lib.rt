@@ -1,25 +1,28 @@
-// The text of test vectors: hex digits that are read, and words that are put into a lent slice in hex digits.
+// The text of test vectors: hex digits that are read, and words that are put into a lent slice in hex digits; and the replay of vectors.
 #![tactic(auto)]
 
 ghost use Rattle.std.specs.Io.KnownBytes.{Consumes};
-ghost use Rattle.std.specs.Prelude.{◌≡◌, ◌+◌, ◌≤◌, eqb, leb, length, take};
+ghost use Rattle.std.specs.Prelude.{◌≡◌, ◌+◌, ◌<◌, ◌≤◌, IfSome, eqb, leb, ltb, length, take};
 ghost use Rattle.word.specs.Value.{val, number_of};
-ghost use Rattle.word.specs.Option.{provided};
+ghost use Rattle.word.specs.Option.{only, provided};
 ghost use Rattle.text.specs.Text.{placed, end_of, placed_in};
+ghost use Rattle.vector_lines.specs.Replay.{AnswersWithin};
 ghost use Rattle.vector_lines.specs.Text.{digit_value, spelled, hex_digits};
 
-use std::io::Read;
-use text::put_text_in_room;
+use std::io::{Read, Write};
+use text::{has_room, put_text_in_room};
 use word::Word;
 
-// A hex digit's value, or 16 for another byte.
-fn digit_value(b: u8) -> u64
-    ensures { result ≡ digit_value b }
+// A hex digit's value. `char::to_digit` would also read the capitals A to F.
+#[tactic(auto, unfolding(crate::specs::Text::digit_value))]
+fn digit_value(b: u8) -> Option<u64>
+    ensures value { result ≡ only (ltb (digit_value b) 16) (digit_value b) }
+    ensures bound { IfSome result (λ d. d < 16) }
 {
     match b {
-        48..=57 => (b - 48) as u64,
-        97..=102 => (b - 87) as u64,
-        _ => 16,
+        b'0'..=b'9' => Some((b - b'0') as u64),
+        b'a'..=b'f' => Some((b - b'a') as u64 + 10),
+        _ => None,
     }
 }
 
@@ -30,15 +33,9 @@ pub fn number_of(text: &[u8]) -> Option<u64>
     if 16 < text.len() {
         return None;
     }
-    let mut n: u64 = 0;
-    let mut i = 0;
-    while i < text.len() {
-        let d = digit_value(text[i]);
-        if 15 < d {
-            return None;
-        }
-        n = n * 16 + d;
-        i += 1;
+    let mut n = 0;
+    for &b in text {
+        n = n * 16 + digit_value(b)?;
     }
     Some(n)
 }
@@ -50,24 +47,9 @@ pub fn word_of(text: &[u8]) -> Option<Word>
     if text.len() != 32 {
         return None;
     }
-    let high = number_of(&text[..16]);
-    let low = number_of(&text[16..]);
-    let Some(hi) = high else {
-        return None;
-    };
-    let Some(lo) = low else {
-        return None;
-    };
-    Some(Word { lo: lo, hi: hi })
-}
-
-fn put_digits(text: &[u8; 16], out: &mut [u8], at: usize) -> usize
-    requires { at + 16 ≤ length out.old }
-    ensures text_len { length text.now ≡ 16 }
-    ensures value { result ≡ at + 16 }
-    ensures out_after { out.new ≡ placed out.old at text.now }
-{
-    put_text_in_room(text, out, at)
+    let hi = number_of(&text[..16])?;
+    let lo = number_of(&text[16..])?;
+    Some(Word { lo, hi })
 }
 
 // Puts the 16 hex digits of a half into out from `at` on, and answers where they end.
@@ -78,7 +60,7 @@ fn put_half(half: u64, out: &mut [u8], at: usize) -> usize
 {
     let mut text = [0u8; 16];
     io::hex(half, 16, &mut text);
-    put_digits(&text, out, at)
+    put_text_in_room(&text, out, at)
 }
 
 // Puts the 32 hex digits of a word into out from `at` on, and answers where they end.
@@ -96,12 +78,11 @@ pub fn put_word(w: Word, out: &mut [u8], at: usize) -> usize
     ensures value { result ≡ end_of out.old at 32 }
     ensures out_after { out.new ≡ placed_in out.old at 32 (hex_digits 32 (val w)) }
 {
-    if at <= out.len() {
-        if 32 <= out.len() - at {
-            return put_word_in_room(w, out, at);
-        }
+    if has_room(out, at, 32) {
+        put_word_in_room(w, out, at)
+    } else {
+        at
     }
-    at
 }
 
 // Fills a block with what a reader gives, and answers how many bytes came: they are the next ones of the reader, in their order. There are fewer
@@ -110,16 +91,94 @@ pub fn read_full<R: Read>(reader: &mut R, block: &mut [u8]) -> usize
     ensures in_bounds { result ≤ length block.old }
     ensures bytes { Consumes (R.remaining reader.old) (R.remaining reader.new) (take result block.new) }
 {
+    // Each read decides how far it goes, so that no `for` fits.
     let mut at = 0;
     while at < block.len() {
-        let got = match reader.read(&mut block[at..]) {
-            Ok(n) => n,
-            Err(_) => 0,
-        };
-        if got == 0 {
-            return at;
+        match reader.read(&mut block[at..]) {
+            Ok(0) | Err(_) => return at,
+            Ok(got) => at += got,
         }
-        at += got;
     }
     at
+}
+
+// Puts the digits of a word and a line end into out from `at` on, and answers where they end.
+pub fn put_word_line(w: Word, out: &mut [u8], at: usize) -> usize
+    requires { at + 33 ≤ length out.old }
+    ensures { result ≡ at + 33 }
+{
+    let end = put_word_in_room(w, out, at);
+    put_text_in_room(b"\n", out, end)
+}
+
+// How far the lines of a block were answered: how many bytes the answers have, and whether that is all of the block.
+#[derive(Clone, Copy)]
+struct Answered {
+    len: usize,
+    is_whole: bool,
+}
+
+// Puts the answers to the lines of block, each of `size` bytes, at the start of out, up to one that has no answer.
+fn answer_lines<F: FnMut(&[u8], &mut [u8]) -> Option<usize>>(
+    block: &[u8],
+    size: usize,
+    out: &mut [u8],
+    answer: &mut F,
+) -> Answered
+    requires some_byte { 0 < size }
+    requires answers { AnswersWithin F.FnMut }
+    ensures { result.len ≤ length out.new }
+{
+    let mut len = 0;
+    for line in block.chunks_exact(size) {
+        let Some(n) = answer(line, &mut out[len..]) else {
+            return Answered {
+                len,
+                is_whole: false,
+            };
+        };
+        len += n;
+    }
+    Answered {
+        len,
+        is_whole: block.len() % size == 0,
+    }
+}
+
+// Reads a block of lines and writes their answers, and answers whether there may be more lines.
+fn replay_block<R: Read, W: Write, F: FnMut(&[u8], &mut [u8]) -> Option<usize>>(
+    reader: &mut R,
+    writer: &mut W,
+    size: usize,
+    block: &mut [u8],
+    out: &mut [u8],
+    answer: &mut F,
+) -> bool
+    requires some_byte { 0 < size }
+    requires answers { AnswersWithin F.FnMut }
+{
+    let n = read_full(reader, block);
+    let answered = answer_lines(&block[..n], size, out, answer);
+    writer.write_all(&out[..answered.len]).is_ok() && answered.is_whole && n == block.len()
+}
+
+// Replays test vectors: reads lines of `size` bytes, as many at a time as block holds, and writes their answers, which out has room for. It stops
+// at a line that has no answer, and at the reader's end. `answer` puts a line's answer at the start of a slice, and answers where it ends.
+pub fn replay<R: Read, W: Write, F: FnMut(&[u8], &mut [u8]) -> Option<usize>>(
+    reader: &mut R,
+    writer: &mut W,
+    size: usize,
+    block: &mut [u8],
+    out: &mut [u8],
+    mut answer: F,
+)
+    requires some_byte { 0 < size }
+    requires answers { AnswersWithin F.FnMut }
+{
+    // A proved loop has to end: no run takes so many turns.
+    for _ in 0..u64::MAX {
+        if !replay_block(reader, writer, size, block, out, &mut answer) {
+            return;
+        }
+    }
 }

@@ -1,52 +1,38 @@
 // The text of a vector, and of an answer.
 // A vector: two hex digits of the operation's code, a space, 32 of the left operand, a space, 32 of the right one, a line end.
-ghost use Rattle.std.specs.Prelude.{◌+◌, ◌≤◌, length};
+ghost use Rattle.std.specs.Prelude.{◌≤◌, IfSome, length};
 
 use crate::answers::{Answer, answer_of};
 use text::put_text_in_room;
-use vector_lines::{number_of, put_word_in_room, word_of};
+use vector_lines::{number_of, put_word_line, word_of};
 
-fn answer_to(line: &[u8]) -> Answer {
-    if line.len() != 69 {
-        return Answer::Malformed;
-    }
-    if line[2] != b' ' || line[35] != b' ' || line[68] != b'\n' {
-        return Answer::Malformed;
-    }
-    let first = number_of(&line[0..2]);
-    let second = word_of(&line[3..35]);
-    let third = word_of(&line[36..68]);
-    let Some(code) = first else {
-        return Answer::Malformed;
-    };
-    let Some(a) = second else {
-        return Answer::Malformed;
-    };
-    let Some(b) = third else {
-        return Answer::Malformed;
-    };
+// The bytes of a vector, and the most that an answer has.
+pub(crate) const LINE: usize = 69;
+
+pub(crate) const ROOM: usize = 33;
+
+// The answer to a vector that is well formed.
+fn answer_to(line: &[u8; LINE]) -> Option<Answer> {
+    let code = number_of(line[..3].strip_suffix(b" ")?)?;
+    let a = word_of(line[3..36].strip_suffix(b" ")?)?;
+    let b = word_of(line[36..].strip_suffix(b"\n")?)?;
     answer_of(code, a, b)
 }
 
-// Puts the answer's line at `at`, and answers where it ends. A malformed answer has no line.
-fn put_answer(answer: Answer, out: &mut [u8], at: usize) -> usize
-    requires { at + 33 ≤ length out.old }
-    ensures { result ≤ at + 33 }
+// Puts the answer's line at the start of out, and answers where it ends.
+fn put_answer(answer: Answer, out: &mut [u8; ROOM]) -> usize
+    ensures { result ≤ ROOM }
 {
     match answer {
-        Answer::Pattern(w) => {
-            let end = put_word_in_room(w, out, at);
-            put_text_in_room(b"\n", out, end)
-        }
-        Answer::Nothing => put_text_in_room(b"none\n", out, at),
-        Answer::Malformed => at,
+        Some(w) => put_word_line(w, out, 0),
+        None => put_text_in_room(b"none\n", out, 0),
     }
 }
 
-// Puts the answer to the vector at `at`, and answers where it ends: at `at` where the vector is malformed.
-pub(crate) fn put_answer_to(line: &[u8], out: &mut [u8], at: usize) -> usize
-    requires { at + 33 ≤ length out.old }
-    ensures { result ≤ at + 33 }
+// Puts the answer to a vector at the start of out, and answers where it ends. A malformed vector has no answer.
+pub(crate) fn put_answer_to(line: &[u8], out: &mut [u8]) -> Option<usize>
+    ensures { IfSome result (λ end. end ≤ length out.old) }
 {
-    put_answer(answer_to(line), out, at)
+    let answer = answer_to(line.as_array()?)?;
+    Some(put_answer(answer, out.first_chunk_mut()?))
 }

@@ -5,65 +5,18 @@
 mod answers;
 mod lines;
 
-ghost use Rattle.io.specs.Counts.{IsPrefixLen};
+use lines::{LINE, ROOM, put_answer_to};
+use vector_lines::replay;
 
-use lines::put_answer_to;
-use std::io::{Stdin, Stdout, Write};
-use vector_lines::read_full;
-
-#[derive(Clone, Copy)]
-struct Replayed {
-    len: usize,
-    is_whole: bool,
-}
-
-// Puts the answers to the lines of block at the start of out.
-fn replay(block: &[u8], out: &mut [u8]) -> Replayed
-    ensures { IsPrefixLen result.len out.new }
-{
-    let mut from = 0;
-    let mut len = 0;
-    while 69 <= block.len() - from {
-        if out.len() - len < 33 {
-            return Replayed {
-                len: len,
-                is_whole: false,
-            };
-        }
-        let end = put_answer_to(&block[from..from + 69], out, len);
-        if end == len {
-            return Replayed {
-                len: len,
-                is_whole: false,
-            };
-        }
-        len = end;
-        from += 69;
-    }
-    Replayed {
-        len: len,
-        is_whole: from == block.len(),
-    }
-}
-
-// Replays 64 lines, and answers whether there may be more. A line has 69 bytes, and an answer at most 33.
-fn replay_some(mut stdin: Stdin, mut stdout: Stdout) -> bool {
-    let mut block = [0u8; 4416];
-    let mut out = [0u8; 2112];
-    let n = read_full(&mut stdin, &mut block);
-    let replayed = replay(&block[..n], &mut out);
-    let len = replayed.len;
-    if stdout.write_all(&out[..len]).is_ok() {
-        if n == 4416 { replayed.is_whole } else { false }
-    } else {
-        false
-    }
-}
-
-// A proved loop has to end: it counts its turns down, from a number that no run uses up.
 fn main(rt: HostRuntime) {
-    let mut turns = u64::MAX;
-    while turns > 0 && replay_some(rt.stdin(), rt.stdout()) {
-        turns -= 1;
-    }
+    let mut lines = [0u8; 64 * LINE];
+    let mut answers = [0u8; 64 * ROOM];
+    replay(
+        &mut rt.stdin(),
+        &mut rt.stdout(),
+        LINE,
+        &mut lines,
+        &mut answers,
+        put_answer_to,
+    );
 }

@@ -1,7 +1,7 @@
 -- `record_vectors::record_length` meets its contract: a record that is there whole has a header and ends within the bytes. Assumes nothing.
 use mathlib.Core.Bool.{Bool, true, false}
 use mathlib.Core.List.{List}
-use Rattle.std.specs.Prelude.{Some}
+use Rattle.std.specs.Prelude.{Option, None, Some, unwrap_or}
 use mathlib.Core.Path.{◌≡◌, refl, sym}
 use Prim.Native.Nat.{ℕ, ◌+◌, ◌≤◌, ◌<◌}
 use native.Mathlib.Omega.{arith}
@@ -25,7 +25,10 @@ first-within bs k e = by (leb HEADER (length bs)) (leb end (length bs)) refl e
     by true false q e = let z : ◌≡◌ {A = ℕ} 0 1 = cc in absurd (omega arith)
     by false t q e = let z : ◌≡◌ {A = ℕ} 0 1 = cc in absurd (omega arith)
 
-pub returns-in-Some : goal.returns-in-Some
-returns-in-Some c =
-    first-within c.args.bytes.now c.in-Some.len
-    (sym (rw c.in-Some.is at c.first_length-first.ensures))
+-- that, or all bytes
+or-all : (bs : List ℕ) (o : Option ℕ) → 0 < length bs → o ≡ first_length bs → (0 < unwrap_or o (length bs)) × (unwrap_or o (length bs) ≤ length bs)
+or-all bs None some e = (some, omega arith)
+or-all bs (Some k) some e = first-within bs k (sym e)
+
+pub returns : goal.returns
+returns c = rw c.unwrap_or.ensures (or-all c.args.bytes.now c.first_length.result c.requires c.first_length.ensures)

@@ -5,7 +5,6 @@ use Rattle.std.specs.Io.KnownBytes.{Consumes}
 use borrow.Rule.Slice.PartMut.{put_mid, post_of, same_len_mid}
 use lib.Seq.{take-append-add, take-append-le}
 use Rattle.vector_lines.proofs.read_full.Goals as goal
-use Rattle.vector_lines.proofs.read_full.Goals.{in-Ok, in-Err}
 
 -- the first bytes of a block, and behind them the first n of the part ys that was put there
 front : (a k n : ℕ) (xs ys : List ℕ) → a ≤ length xs → n ≤ length ys → take a xs ++ take n ys ≡ take (a + n) (put_mid a k xs ys)
@@ -15,17 +14,12 @@ front a k n xs ys within fits =
 
 pub loop-at-preserved : goal.loop-at-preserved
 loop-at-preserved g c =
-    elim c.match-read.branch [
-      | in-Ok w ↦
-          let l = c.loop-at in
-          let given = front l.at (length l.block - l.at) w.in-Ok.n l.block c.read.new.buf l.invariant.0 w.in-Ok.ensures.bound.0 in
-          let room = length l.block - l.at in
-          let part : length (take room (drop l.at l.block)) ≡ room = length-take-le room (drop l.at l.block) (omega (arith, length-drop l.at l.block)) in
-          let whole = same_len_mid l.at room l.block c.read.new.buf c.read.auto.buf in
-          rw w.got-is (
-            omega (arith, whole, part, c.read.auto.buf, w.in-Ok.ensures.bound.0),
-            whole ∙ l.invariant.1,
-            subst (Consumes _ _) given (Consumes-trans _ _ _ _ _ l.invariant.2 w.in-Ok.ensures.bytes.0),
-          )
-      | in-Err w ↦ absurd (omega arith)
-    ]
+    let l = c.loop-at in
+    let room = length l.block - l.at in
+    let given = front l.at room c.in-Ok.got l.block c.read.new.buf l.invariant.0 c.in-Ok.ensures.bound.0 in
+    let part : length (take room (drop l.at l.block)) ≡ room = length-take-le room (drop l.at l.block) (omega (arith, length-drop l.at l.block)) in
+    let whole = same_len_mid l.at room l.block c.read.new.buf c.read.auto.buf in (
+      omega (arith, whole, part, c.read.auto.buf, c.in-Ok.ensures.bound.0),
+      whole ∙ l.invariant.1,
+      subst (Consumes _ _) given (Consumes-trans _ _ _ _ _ l.invariant.2 c.in-Ok.ensures.bytes.0),
+    )

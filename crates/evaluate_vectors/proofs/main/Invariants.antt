@@ -1,5 +1,0 @@
--- `evaluate_vectors::main` ends: the measure is the number of turns left.
-use Rattle.evaluate_vectors.proofs.main.Given as goal
-
-abbrev pub decreases-loop-turns : goal.decreases-loop-turns
-decreases-loop-turns l = l.turns

@@ -1,5 +1,0 @@
--- `word_vectors::main` ends: the measure is the number of turns left.
-use Rattle.word_vectors.proofs.main.Given as goal
-
-abbrev pub decreases-loop-turns : goal.decreases-loop-turns
-decreases-loop-turns l = l.turns
