@@ -1,9 +1,9 @@
 -- Laws of the walk down a chain of Refines, one step each, and of words. Assumes nothing.
-use mathlib.Core.Path.{◌≡◌, refl, ◌∙◌}
+use mathlib.Core.Path.{◌≡◌, ◌∙◌}
 use mathlib.Core.Bool.{true, false}
 use mathlib.Core.List.{List}
-use Rattle.std.specs.Prelude.{None, Some}
-use Prim.Native.Nat.{ℕ, zero, suc, ◌+◌, ◌-◌, ◌%◌, ◌^◌, ◌<◌}
+use Rattle.std.specs.Prelude.{Some}
+use Prim.Native.Nat.{ℕ, suc, ◌+◌, ◌-◌, ◌%◌, ◌^◌, ◌<◌}
 use native.Mathlib.Nat.{add-mod_right, mod-eq_of_lt}
 use native.Mathlib.Omega.{arith}
 use lib.Count.{ones}
@@ -15,10 +15,6 @@ use Rattle.fold.specs.Shape.{refined_at, down}
 -- ---- down a chain of Refines
 
 module _ (g : List ℕ) (n : ℕ) where
-  pub down_end : (k : ℕ) → refined_at g n ≡ None → down g k n ≡ n
-  down_end zero e = refl
-  down_end (suc k) e = rw e
-
   pub down_on : (k j p : ℕ) → k ≡ suc j → refined_at g n ≡ Some p → down g k n ≡ down g j p
   down_on k j p h e = rw (h, e)
 

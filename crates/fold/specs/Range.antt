@@ -47,6 +47,14 @@ unary_range t (un.TrailingZeros w) r = Some (type_interval t)
 
 -- ---- binary nodes
 
+-- the rules that Integer and Bits have both
+abbrev pub shared_rule : Binary → Interval → Interval → Option Interval
+shared_rule o a b =
+    cond (same_binary o bi.Add) (add_interval a b)
+    (cond (same_binary o bi.Sub) (sub_interval a b)
+    (cond (same_binary o bi.Mul) (mul_interval a b)
+    (cond (same_binary o bi.And) (and_interval a b) None)))
+
 -- the rules on Integer (native.rs 510 to 548)
 unfoldable pub integer_rule : Binary → Interval → Interval → Option Interval
 integer_rule o a b =

@@ -17,4 +17,3 @@ pub struct ByConstant {
     pub base: NodeId,
     pub value: Word,
 }
-

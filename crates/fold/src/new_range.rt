@@ -2,156 +2,98 @@
 ghost use Rattle.word.specs.Option.{both_given};
 ghost use Rattle.std.specs.Prelude.{◌≡◌};
 ghost use Rattle.range.specs.Interval.{bounds_of, interval_of};
-ghost use Rattle.fold.specs.Range.{derived_of, extended_range, negated_range, bits_range, unary_range, integer_rule, bits_rule, held_to, binary_range};
+ghost use Rattle.fold.specs.Range.{derived_of, extended_range, unary_range, shared_rule, integer_rule, bits_rule, held_to, binary_range};
 
-use crate::operator::same_binary;
 use evaluate::{Binary, Unary};
 use range::typed::type_range;
 use range::{Range, ScalarType};
+
+// The range of a new node, which may have none; None where the builder answers none.
+pub type Derived = Option<Option<Range>>;
 
 fn extended_range(ty: ScalarType, width: u16) -> Option<Range>
     ensures { interval_of result ≡ extended_range ty width }
 {
     match ty {
-        ScalarType::Bool => type_range(ty),
-        ScalarType::Bits(_) => type_range(ty),
         ScalarType::Integer => Range::sign_extended(width),
+        _ => type_range(ty),
     }
 }
 
-fn negated(range: Option<Range>) -> Option<Option<Range>>
-    ensures { derived_of result ≡ negated_range (interval_of range) }
-{
-    let Some(given) = range else {
-        return None;
-    };
-    let negative = given.negate();
-    match negative {
-        Some(bounds) => Some(Some(bounds)),
-        None => None,
-    }
-}
-
-pub fn unary_range(ty: ScalarType, op: Unary, range: Option<Range>) -> Option<Option<Range>>
+#[tactic(auto, unfolding(crate::specs::Range::unary_range))]
+pub fn unary_range(ty: ScalarType, op: Unary, range: Option<Range>) -> Derived
     ensures { derived_of result ≡ unary_range ty op (interval_of range) }
 {
     match op {
-        Unary::BoolNot => Some(type_range(ty)),
-        Unary::BitNot => Some(type_range(ty)),
-        Unary::Negate => negated(range),
-        Unary::Truncate(_) => Some(type_range(ty)),
+        Unary::Negate => Some(Some(range?.negate()?)),
         Unary::SignExtend(width) => Some(extended_range(ty, width)),
-        Unary::LeadingZeros(_) => Some(type_range(ty)),
-        Unary::TrailingZeros(_) => Some(type_range(ty)),
+        _ => Some(type_range(ty)),
     }
 }
 
+// The rules that Integer and Bits have both.
+fn shared_rule(op: Binary, a: Range, b: Range) -> Option<Range>
+    ensures { interval_of result ≡ shared_rule op (bounds_of a) (bounds_of b) }
+{
+    match op {
+        Binary::Add => a.add(b),
+        Binary::Sub => a.sub(b),
+        Binary::Mul => a.mul(b),
+        Binary::And => a.and(b),
+        _ => None,
+    }
+}
+
+#[tactic(auto, unfolding(crate::specs::Range::integer_rule))]
 fn integer_rule(op: Binary, a: Range, b: Range) -> Option<Range>
     ensures { interval_of result ≡ integer_rule op (bounds_of a) (bounds_of b) }
 {
-    if same_binary(op, Binary::Add) {
-        return a.add(b);
+    match op {
+        Binary::DivideSigned => a.divide_signed(b),
+        Binary::RemainderSigned => a.remainder_signed(b),
+        Binary::DivideUnsigned => a.divide_unsigned(b),
+        Binary::RemainderUnsigned => a.remainder_unsigned(b),
+        _ => shared_rule(op, a, b),
     }
-    if same_binary(op, Binary::Sub) {
-        return a.sub(b);
-    }
-    if same_binary(op, Binary::Mul) {
-        return a.mul(b);
-    }
-    if same_binary(op, Binary::And) {
-        return a.and(b);
-    }
-    if same_binary(op, Binary::DivideSigned) {
-        return a.divide_signed(b);
-    }
-    if same_binary(op, Binary::RemainderSigned) {
-        return a.remainder_signed(b);
-    }
-    if same_binary(op, Binary::DivideUnsigned) {
-        return a.divide_unsigned(b);
-    }
-    if same_binary(op, Binary::RemainderUnsigned) {
-        return a.remainder_unsigned(b);
-    }
-    None
 }
 
+#[tactic(auto, unfolding(crate::specs::Range::bits_rule))]
 fn bits_rule(op: Binary, a: Range, b: Range) -> Option<Range>
     ensures { interval_of result ≡ bits_rule op (bounds_of a) (bounds_of b) }
 {
-    if same_binary(op, Binary::Add) {
-        return a.add(b);
+    match op {
+        Binary::ShiftLeft => a.shift_left(b),
+        Binary::ShiftRight => a.shift_right(b),
+        _ => shared_rule(op, a, b),
     }
-    if same_binary(op, Binary::Sub) {
-        return a.sub(b);
-    }
-    if same_binary(op, Binary::Mul) {
-        return a.mul(b);
-    }
-    if same_binary(op, Binary::And) {
-        return a.and(b);
-    }
-    if same_binary(op, Binary::ShiftLeft) {
-        return a.shift_left(b);
-    }
-    if same_binary(op, Binary::ShiftRight) {
-        return a.shift_right(b);
-    }
-    None
 }
 
 // The rule on Integer where both operands have a range.
 fn integer_range(op: Binary, left: Option<Range>, right: Option<Range>) -> Option<Range>
     ensures { interval_of result ≡ both_given (interval_of left) (interval_of right) (integer_rule op) }
 {
-    let Some(a) = left else {
-        return None;
-    };
-    let Some(b) = right else {
-        return None;
-    };
-    integer_rule(op, a, b)
+    integer_rule(op, left?, right?)
 }
 
 // The rule on Bits where both operands have a range, held to the type.
 fn refined(width: u16, op: Binary, left: Option<Range>, right: Option<Range>) -> Option<Range>
     ensures { interval_of result ≡ held_to width (both_given (interval_of left) (interval_of right) (bits_rule op)) }
 {
-    let Some(a) = left else {
-        return None;
-    };
-    let Some(b) = right else {
-        return None;
-    };
-    let ruled = bits_rule(op, a, b);
-    match ruled {
-        Some(bounds) => bounds.filtered(width),
-        None => None,
-    }
+    bits_rule(op, left?, right?)?.filtered(width)
 }
 
-fn bits_or_type(width: u16, op: Binary, left: Option<Range>, right: Option<Range>) -> Option<Range>
-    ensures { interval_of result ≡ bits_range width op (interval_of left) (interval_of right) }
-{
-    let held = refined(width, op, left, right);
-    match held {
-        Some(bounds) => Some(bounds),
-        None => type_range(ScalarType::Bits(width)),
-    }
-}
-
-pub fn binary_range(ty: ScalarType, op: Binary, left: Option<Range>, right: Option<Range>) -> Option<Option<Range>>
+#[tactic(auto, unfolding(crate::specs::Range::binary_range))]
+pub fn binary_range(
+    ty: ScalarType,
+    op: Binary,
+    left: Option<Range>,
+    right: Option<Range>,
+) -> Derived
     ensures { derived_of result ≡ binary_range ty op (interval_of left) (interval_of right) }
 {
     match ty {
         ScalarType::Bool => Some(type_range(ty)),
-        ScalarType::Bits(width) => Some(bits_or_type(width, op, left, right)),
-        ScalarType::Integer => {
-            let derived = integer_range(op, left, right);
-            match derived {
-                Some(bounds) => Some(Some(bounds)),
-                None => None,
-            }
-        }
+        ScalarType::Bits(width) => Some(refined(width, op, left, right).or_else(|| type_range(ty))),
+        ScalarType::Integer => Some(Some(integer_range(op, left, right)?)),
     }
 }

@@ -32,7 +32,7 @@ module _ (g : List ℕ) (n : ℕ) where
 -- ---- words in the place of others
 
 module _ (d : List ℕ) (at : ℕ) (s : List ℕ) (n : ℕ) (hd : at + n ≤ length d) (hs : n ≤ length s) where
-  paste_in : (k : ℕ) → k < n → get_or (paste d at s n) (at + k) 0 ≡ get_or s k 0
+  pub paste_in : (k : ℕ) → k < n → get_or (paste d at s n) (at + k) 0 ≡ get_or s k 0
   paste_in k h =
       let p : length (take at d ++ take n s) ≡ at + n = length_paste_head d at s n (omega arith) hs in
       let q : length (take at d) ≡ at = length-take-le at d (omega arith) in
@@ -47,7 +47,7 @@ module _ (d : List ℕ) (at : ℕ) (s : List ℕ) (n : ℕ) (hd : at + n ≤ len
       get_or-append (take at d ++ take n s) (drop (at + n) d) 0 i (omega arith)
       ∙ get_or-append (take at d) (take n s) 0 i (omega arith) ∙ get_or-take at d i 0 h
 
-  paste_above : (i : ℕ) → at + n ≤ i → get_or (paste d at s n) i 0 ≡ get_or d i 0
+  pub paste_above : (i : ℕ) → at + n ≤ i → get_or (paste d at s n) i 0 ≡ get_or d i 0
   paste_above i h =
       let p : length (take at d ++ take n s) ≡ at + n = length_paste_head d at s n (omega arith) hs in
       let e : i ≡ length (take at d ++ take n s) + (i - (at + n)) = omega arith in

@@ -1,7 +1,7 @@
--- One turn of each loop of the search, as an equation of what is left to do.
+-- The comparison of keys, and one turn of each loop of the search, as an equation of what is left to do.
 use mathlib.Core.Path.{◌≡◌, refl, sym, ap, subst, ◌∙◌}
-use mathlib.Core.Bool.{Bool, true, false, cond, true≢false, false≢true}
-use mathlib.Core.List.{List}
+use mathlib.Core.Bool.{Bool, true, false, cond, ◌&&◌, true≢false, false≢true}
+use mathlib.Core.List.{List, [], ◌∷◌}
 use Rattle.std.specs.Prelude.{None, Some}
 use mathlib.Core.Logic.{⊎_elim}
 use Prim.Native.Nat.{ℕ, zero, suc, ◌+◌, ◌-◌, ◌*◌, ◌<◌, ◌≤◌}
@@ -9,32 +9,34 @@ use native.Mathlib.Nat.{add-zero}
 use native.Mathlib.Omega.{arith}
 use borrow.Author.Tests.{eq-eqb, ne_eqb}
 use lib.Dec.{eqb, lit<}
-use lib.ListN.{length, get_or}
-use lib.Seq.{slice, slice-cons, slice_empty}
+use lib.ListN.{length, get_or, take, drop}
+use lib.Seq.{drop-cons, length-take-le}
+use Rattle.std.specs.List.{between}
+use Rattle.std.specs.Cmp.Lexicographic.{pointwise}
 use Rattle.word.proofs.Integer.{lt-or-ge}
 use Rattle.graph.specs.Layout.{WORDS, X, KEY, node_start}
 use Rattle.graph.specs.Insert.{same_words, same_key, are_apart, lowest}
 use Rattle.graph.proofs.Interned.{word_differs}
 
--- ---- words j to n of ws
+-- ---- the words of a key
 
-module _ (g : List ℕ) (at : ℕ) (ws : List ℕ) (n j : ℕ) where
-  turn : j < n → n ≤ length ws
-      → same_words g (at + j) (slice j n ws) ≡ cond (eqb (get_or g (at + j) 0) (get_or ws j 0)) (same_words g (at + (j + 1)) (slice (j + 1) n ws)) false
-  turn h l =
-      let a : suc (at + j) ≡ at + (j + 1) = omega arith in
-      let b : suc j ≡ j + 1 = omega arith in
-      rw (slice-cons j n ws 0 h l) (λ i. cond (eqb (get_or g (at + j) 0) (get_or ws j 0)) (same_words g (a i) (slice (b i) n ws)) false)
+and_cond : (t u : Bool) → t && u ≡ cond t u false
+and_cond true u = refl
+and_cond false u = refl
 
-  pub same_on : j < n → n ≤ length ws → get_or g (at + j) 0 ≡ get_or ws j 0
-      → same_words g (at + j) (slice j n ws) ≡ same_words g (at + (j + 1)) (slice (j + 1) n ws)
-  same_on h l e = turn h l ∙ rw (eq-eqb (get_or g (at + j) 0) (get_or ws j 0) e)
+same_from : (g ws : List ℕ) (at : ℕ) → at + length ws ≤ length g → pointwise eqb (take (length ws) (drop at g)) ws ≡ same_words g at ws
+same_from g [] at h = refl
+same_from g (w ∷ ws) at h =
+    rw (drop-cons g at 0 (omega arith))
+    (ap (λ (t : Bool). eqb (get_or g at 0) w && t) (same_from g ws (suc at) (omega arith)) ∙ and_cond (eqb (get_or g at 0) w) (same_words g (suc at) ws))
 
-  pub same_off : j < n → n ≤ length ws → (get_or g (at + j) 0 ≡ get_or ws j 0 → ⊥) → same_words g (at + j) (slice j n ws) ≡ false
-  same_off h l d = turn h l ∙ rw (ne_eqb (get_or g (at + j) 0) (get_or ws j 0) d)
-
-  pub same_end : n ≤ j → j ≤ n → same_words g (at + j) (slice j n ws) ≡ true
-  same_end h k = let e : j ≡ n = omega arith in rw (e, slice_empty n ws)
+-- `==` of n words of g from `at` on with the first n of ws
+pub same_is : (g ws : List ℕ) (at n : ℕ) → at + n ≤ length g → n ≤ length ws → pointwise eqb (between at (at + n) g) (between 0 n ws) ≡ same_words g at (take n ws)
+same_is g ws at n h k =
+    let e : at + n - at ≡ n = omega arith in
+    let l : length (take n ws) ≡ n = length-take-le n ws k in
+    let z : n - 0 ≡ n = omega arith in
+    rw (e, z) (subst (λ (m : ℕ). pointwise eqb (take m (drop at g)) (take n ws) ≡ same_words g at (take n ws)) l (same_from g (take n ws) at (omega (arith, l))))
 
 -- ---- the numbers from i to n
 

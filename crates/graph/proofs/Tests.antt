@@ -1,7 +1,7 @@
--- The tests of a node's words by their codes, and one turn of each loop over the nodes and the words. Assumes nothing.
-use mathlib.Core.Path.{◌≡◌, refl, sym, ◌∙◌}
+-- The tests of a node's words by their codes, and the tests of all nodes and of all words. Assumes nothing.
+use mathlib.Core.Path.{◌≡◌, refl, sym, ap, ◌∙◌}
 use mathlib.Core.Bool.{Bool, true, false, not, cond, ◌&&◌}
-use mathlib.Core.List.{List}
+use mathlib.Core.List.{List, [], ◌∷◌, ◌++◌}
 use mathlib.Core.Logic.{⊎_elim}
 use Prim.Native.Nat.{ℕ, zero, suc, ◌+◌, ◌<◌, ◌≤◌}
 use native.Mathlib.Numerals.{add-one}
@@ -9,8 +9,7 @@ use native.Mathlib.Omega.{arith}
 use borrow.Author.Tests.{ne_eqb, lt-ltb}
 use lib.Bits.{bit_or, or_add_and, and_le_r}
 use lib.Dec.{ltb, eqb}
-use lib.ListN.{length, get_or, drop, drop_of_length-le}
-use lib.Seq.{drop-cons}
+use Rattle.std.specs.List.{list_all, range_with_len}
 use Rattle.word.proofs.Integer.{lt-or-ge}
 use Rattle.evaluate.specs.Operator.{WIDTHS, is_unary_code, is_binary_code}
 use Rattle.graph.specs.Layout.{CONSTANT, INPUT, REFINE, EFFECT, SLICE, CONCAT}
@@ -69,7 +68,35 @@ module _ (p : ℕ → Bool) where
   all_pass_lem zero h = refl
   all_pass_lem (suc m) h = rw (all_pass_lem m (λ n l. h n (omega arith))) (h m (omega arith))
 
--- ---- are_zeros: words passed, and the end
+-- ---- the same by chains of iterators
+
+both_assoc : (s t u : Bool) → s && (t && u) ≡ s && t && u
+both_assoc true t u = refl
+both_assoc false t u = refl
+
+shifted : (q : ℕ → Bool) (n : ℕ) → q 0 && all_pass (λ k. q (suc k)) n ≡ all_pass q (suc n)
+shifted q zero = sym (both_true (q 0))
+shifted q (suc n) = both_assoc (q 0) (all_pass (λ k. q (suc k)) n) (q (suc n)) ∙ ap (λ (t : Bool). t && q (suc n)) (shifted q n)
+
+passes_from : (p : ℕ → Bool) (n a : ℕ) → list_all p (range_with_len a n) ≡ all_pass (λ k. p (a + k)) n
+passes_from p zero a = refl
+passes_from p (suc n) a =
+    ap (λ (t : Bool). p a && t) (passes_from p n (a + 1))
+    ∙ (λ i. p (first i) && all_pass (λ k. p (next k i)) n)
+    ∙ shifted (λ k. p (a + k)) n
+  where
+    first : a ≡ a + 0
+    first = omega arith
+
+    next : (k : ℕ) → a + 1 + k ≡ a + suc k
+    next k = omega arith
+
+-- `all` over the numbers below n
+pub passes : (p : ℕ → Bool) (n : ℕ) → list_all p (range_with_len 0 n) ≡ all_pass p n
+passes p n = passes_from p n 0 ∙ (λ i. all_pass (λ k. p (same k i)) n)
+  where
+    same : (k : ℕ) → 0 + k ≡ k
+    same k = omega arith
 
 -- an Or is 0 if both numbers are
 or_test : (a b : ℕ) → eqb (bit_or a b) 0 ≡ eqb a 0 && eqb b 0
@@ -77,15 +104,10 @@ or_test zero b = refl
 or_test (suc a) b =
     rw (ne_eqb (bit_or (suc a) b) 0 (λ e. omega (arith, or_add_and (suc a) b, and_le_r (suc a) b)), ne_eqb (suc a) 0 (λ e. omega arith))
 
-both_assoc : (s t u : Bool) → s && (t && u) ≡ s && t && u
-both_assoc true t u = refl
-both_assoc false t u = refl
+zeros_push : (ws : List ℕ) (w : ℕ) → are_zeros (ws ++ (w ∷ [])) ≡ are_zeros ws && eqb w 0
+zeros_push [] w = sym (both_true (eqb w 0))
+zeros_push (x ∷ ws) w = ap (λ (t : Bool). eqb x 0 && t) (zeros_push ws w) ∙ both_assoc (eqb x 0) (are_zeros ws) (eqb w 0)
 
-module _ (g : List ℕ) (at : ℕ) where
-  -- ones are the bits of the words before `at`
-  pub zeros_on : (ones : ℕ) → at < length g
-      → eqb ones 0 && are_zeros (drop at g) ≡ eqb (bit_or ones (get_or g at 0)) 0 && are_zeros (drop (at + 1) g)
-  zeros_on ones h = rw (drop-cons g at 0 h, add-one at, or_test ones (get_or g at 0)) (both_assoc (eqb ones 0) (eqb (get_or g at 0) 0) (are_zeros (drop (suc at) g)))
-
-  pub zeros_end : length g ≤ at → are_zeros (drop at g) ≡ true
-  zeros_end h = rw (drop_of_length-le g h)
+-- a fold by Or: one word more
+pub zeros_more : (ws : List ℕ) (ones w : ℕ) → eqb ones 0 ≡ are_zeros ws → eqb (bit_or ones w) 0 ≡ are_zeros (ws ++ (w ∷ []))
+zeros_more ws ones w e = or_test ones w ∙ ap (λ (t : Bool). t && eqb w 0) e ∙ sym (zeros_push ws w)

@@ -1,15 +1,17 @@
--- The loop of `clear_to`, and what it leaves: the words of the first n nodes, zeros past them, and n as the count.
+-- What `clear_to` leaves: the words of the first n nodes, zeros past them, and n as the count.
 use Prim.Native.Nat.{ℕ, zero, suc, ◌+◌, ◌-◌, ◌≤◌, ◌<◌}
 use mathlib.Core.Path.{◌≡◌, refl, sym, ap, ◌∙◌}
 use mathlib.Core.List.{List, ◌++◌}
 use mathlib.Core.Logic.{⊎_elim}
 use native.Mathlib.Omega.{arith}
-use borrow.Author.Rules.{read_below, read_above}
+use borrow.Rule.Slice.PartMut.{put_mid}
 use lib.ListN.{length, get_or, set, take, replicate, length-set, length-append, length-replicate, get_or-replicate, get_or-append, get_or-eq_default}
-use lib.Seq.{get_or-set_same, get_or-set_other, get_or-take, get_or-append-add, length-take-le, ext_get_or}
+use lib.Seq.{paste, length-paste, get_or-set_same, get_or-set_other, get_or-take, get_or-append-add, length-take-le, ext_get_or}
+use Rattle.std.proofs.lemmas.Slice.{put_mid-paste}
 use Rattle.word.proofs.Integer.{lt-or-ge}
 use Rattle.graph.specs.Layout.{LIMIT, REGION, node_start, count_of}
 use Rattle.graph.specs.Clear.{cleared, EmptyPast}
+use Rattle.graph.proofs.Nodes.{paste_in, paste_below, paste_above}
 
 -- k is h with n nodes, word by word
 pub record Cleared (n : ℕ) (h k : List ℕ) : Type 0 where
@@ -72,39 +74,43 @@ cleared_one n h k fits d = ext_get_or 0 k (cleared n h) (d.size ∙ sym f.size) 
         (λ p. d.empty (suc i) p ∙ sym (f.empty (suc i) p))
         (lt-or-ge (suc i) (node_start n))
 
--- ---- the loop: words from node n on up to i are zero, and the others are those of h
+-- ---- nodes n to c wiped, after the count was set: only zeros follow c
 
-pub record Wiping (n : ℕ) (h k : List ℕ) (i : ℕ) : Type 0 where
-  pub size : length k ≡ length h
-  pub from : node_start n ≤ i
-  pub upto : i ≤ length h
-  pub kept : (j : ℕ) → j < node_start n → get_or k j 0 ≡ get_or h j 0
-  pub empty : (j : ℕ) → node_start n ≤ j → j < i → get_or k j 0 ≡ 0
-  pub rest : (j : ℕ) → i ≤ j → get_or k j 0 ≡ get_or h j 0
+module _ (n c : ℕ) (h : List ℕ) (l : n ≤ c) (fits : node_start c ≤ length h) (zeros : EmptyPast c h) where
+  abbrev size : ℕ
+  size = node_start c - node_start n
 
--- one word more
-pub wiping_more : (n : ℕ) (h k : List ℕ) (i : ℕ) → Wiping n h k i → i < length h → Wiping n h (set k i 0) (i + 1)
-wiping_more n h k i w l = record {
-  size = length-set k i 0 ∙ w.size;
-  from = let f = w.from in omega arith;
-  upto = omega arith;
-  kept = λ j p. read_below ℕ k i j 0 0 (get_or h j 0) (let f = w.from in omega arith) (w.kept j p);
-  empty = λ j p q. ⊎_elim (λ r. read_below ℕ k i j 0 0 0 r (w.empty j p r)) (λ r. here j q r) (lt-or-ge j i);
-  rest = λ j p. get_or-set_other k i j 0 0 (λ e. omega arith) ∙ w.rest j (omega arith);
-}
-  where
-    here : (j : ℕ) → j < i + 1 → i ≤ j → get_or (set k i 0) j 0 ≡ 0
-    here j q r = let e : i ≡ j = omega arith in rw (← e) (get_or-set_same k i 0 0 (let s = w.size in omega arith))
+  abbrev counted : List ℕ
+  counted = set h 0 n
 
--- after the loop, which began with h after the count was set, and ended where only zeros follow
-pub wiped : (n : ℕ) (h k : List ℕ) (i : ℕ) → node_start n ≤ length h → Wiping n (set h 0 n) k i → ((j : ℕ) → i ≤ j → get_or h j 0 ≡ 0) → k ≡ cleared n h
-wiped n h k i fits w zeros =
-    cleared_one n h k fits (record {
-      size = w.size ∙ length-set h 0 n;
-      count = w.kept 0 (omega arith) ∙ get_or-set_same h 0 n 0 (omega arith);
-      kept = λ j p q. w.kept j q ∙ read_above ℕ h 0 j n 0 (get_or h j 0) p refl;
-      empty = λ j p. ⊎_elim (λ r. w.empty j p r) (λ r. w.rest j r ∙ get_or-set_other h 0 j n 0 (λ e. omega arith) ∙ zeros j r) (lt-or-ge j i);
-    })
+  abbrev none : List ℕ
+  none = replicate size 0
+
+  none_length : length none ≡ size
+  none_length = length-replicate size 0
+
+  pub wiped : (z : List ℕ) → z ≡ replicate (node_start c - node_start n) 0 → put_mid (node_start n) (node_start c - node_start n) (set h 0 n) z ≡ cleared n h
+  wiped z e =
+      put_mid-paste (node_start n) size counted z none size e refl (sym (length-replicate size 0))
+      ∙ cleared_one n h (paste counted (node_start n) none size) (omega arith) (record {
+        size = length-paste counted (node_start n) none size hd hs ∙ length-set h 0 n;
+        count = paste_below counted (node_start n) none size hd hs 0 (omega arith) ∙ get_or-set_same h 0 n 0 (omega arith);
+        kept = λ i p q. paste_below counted (node_start n) none size hd hs i q ∙ get_or-set_other h 0 i n 0 (λ e. omega arith);
+        empty = λ i p. ⊎_elim (λ r. inner i p r) (λ r. paste_above counted (node_start n) none size hd hs i r ∙ get_or-set_other h 0 i n 0 (λ e. omega arith) ∙ zeros i (omega arith)) (lt-or-ge i (node_start n + size));
+      })
+    where
+      hd : node_start n + size ≤ length counted
+      hd = omega (arith, length-set h 0 n)
+
+      hs : size ≤ length none
+      hs = omega (arith, none_length)
+
+      inner : (i : ℕ) → node_start n ≤ i → i < node_start n + size → get_or (paste counted (node_start n) none size) i 0 ≡ 0
+      inner i p r =
+          let e : i ≡ node_start n + (i - node_start n) = omega arith in
+          ap (λ (j : ℕ). get_or (paste counted (node_start n) none size) j 0) e
+          ∙ paste_in counted (node_start n) none size hd hs (i - node_start n) (omega arith)
+          ∙ get_or-replicate size (i - node_start n) 0 0 (omega arith)
 
 -- past the last node that there can be no word follows
 pub none_past : (h : List ℕ) → length h ≡ REGION → EmptyPast LIMIT h

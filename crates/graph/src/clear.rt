@@ -1,22 +1,20 @@
 // Taking nodes off the end of the region.
-ghost use Rattle.std.specs.Prelude.{◌≡◌, ◌≤◌, length};
+ghost use Rattle.std.specs.Prelude.{◌≡◌, ◌≤◌};
 ghost use Rattle.graph.specs.Layout.{REGION, LIMIT};
 ghost use Rattle.graph.specs.Clear.{cleared, EmptyPast};
 
 use crate::layout::{FIRST, LIMIT, Region, WORDS};
 
 // Leaves the first `nodes` nodes, where every word past the first `count` is 0: `nodes` is the count, and every word past them is 0.
+#[tactic(auto, using(crate::proofs::Wiping::wiped))]
 pub fn clear_to(g: &mut Region, nodes: u64, count: u64)
     requires { (nodes ≤ count) × (count ≤ LIMIT) × EmptyPast count g.old }
     ensures { g.new ≡ cleared nodes g.old }
 {
     g[0] = nodes;
+    let from = (FIRST + WORDS * nodes) as usize;
     let end = (FIRST + WORDS * count) as usize;
-    let mut at = (FIRST + WORDS * nodes) as usize;
-    while at < end {
-        g[at] = 0;
-        at += 1;
-    }
+    g[from..end].fill(0);
 }
 
 // The same whatever the words past the nodes are.

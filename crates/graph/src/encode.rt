@@ -20,7 +20,7 @@ pub struct Fields {
     pub z: u64,
 }
 
-// The fields of a range: its presence, minimum and maximum.
+// The fields of a range: its presence, minimum and maximum. No Option: the words of a node have the flag beside the ends, and 0 in these without a range.
 #[derive(Clone, Copy)]
 pub struct Bounds {
     pub flag: u64,
@@ -38,14 +38,15 @@ fn type_code(ty: ScalarType) -> u64
     }
 }
 
+#[tactic(auto, unfolding(word::specs::Value::val))]
 fn bounds_of(range: Option<Range>) -> Bounds
     ensures { (result.flag ≡ range_flag (interval_of range)) × (val result.min ≡ range_low (interval_of range)) × (val result.max ≡ range_high (interval_of range)) }
 {
     match range {
         None => Bounds {
             flag: 0,
-            min: Word { lo: 0, hi: 0 },
-            max: Word { lo: 0, hi: 0 },
+            min: Word::ZERO,
+            max: Word::ZERO,
         },
         Some(bounds) => Bounds {
             flag: 1,
@@ -55,61 +56,49 @@ fn bounds_of(range: Option<Range>) -> Bounds
     }
 }
 
+#[tactic(auto, using(crate::proofs::Codes::halves))]
 fn fields_of(operation: Operation) -> Fields
     ensures { (result.code ≡ op_code (op_of operation)) × (result.x ≡ op_x (op_of operation)) × (result.y ≡ op_y (op_of operation)) × (result.z ≡ op_z (op_of operation)) }
 {
-    match operation {
-        Operation::Constant(value) => make_fields(CONSTANT, value.lo, value.hi, 0),
-        Operation::Input(id) => make_fields(INPUT, id.0, 0, 0),
-        Operation::Refine(id) => make_fields(REFINE, id.0, 0, 0),
-        Operation::Effect(id) => make_fields(EFFECT, id.0, 0, 0),
+    let (code, x, y, z) = match operation {
+        Operation::Constant(value) => (CONSTANT, value.lo, value.hi, 0),
+        Operation::Input(id) => (INPUT, id.0, 0, 0),
+        Operation::Refine(id) => (REFINE, id.0, 0, 0),
+        Operation::Effect(id) => (EFFECT, id.0, 0, 0),
         Operation::Slice {
             value,
             offset,
             width,
-        } => make_fields(SLICE, value.0, offset as u64, width as u64),
+        } => (SLICE, value.0, offset as u64, width as u64),
         Operation::Concat {
             high,
             low,
             low_width,
-        } => make_fields(CONCAT, high.0, low.0, low_width as u64),
-        Operation::Unary(unary, id) => make_fields(unary.code(), id.0, 0, unary.width() as u64),
-        Operation::Binary(binary, left, right) => make_fields(binary.code(), left.0, right.0, 0),
-    }
-}
-
-// An operation's fields by their values.
-fn make_fields(code: u64, x: u64, y: u64, z: u64) -> Fields
-    ensures { (result.code ≡ code) × (result.x ≡ x) × (result.y ≡ y) × (result.z ≡ z) }
-{
-    Fields {
-        code: code,
-        x: x,
-        y: y,
-        z: z,
-    }
+        } => (CONCAT, high.0, low.0, low_width as u64),
+        Operation::Unary(unary, id) => (unary.code(), id.0, 0, unary.width() as u64),
+        Operation::Binary(binary, left, right) => (binary.code(), left.0, right.0, 0),
+    };
+    Fields { code, x, y, z }
 }
 
 // The words of a node without an alias.
 pub fn words_of(ty: ScalarType, range: Option<Range>, operation: Operation) -> [u64; SIZE]
     ensures { result ≡ words_of ty (interval_of range) (op_of operation) }
 {
-    let bounds = bounds_of(range);
-    let min = bounds.min;
-    let max = bounds.max;
-    let fields = fields_of(operation);
+    let Bounds { flag, min, max } = bounds_of(range);
+    let Fields { code, x, y, z } = fields_of(operation);
     [
         type_code(ty),
         type_width(ty) as u64,
-        bounds.flag,
+        flag,
         min.lo,
         min.hi,
         max.lo,
         max.hi,
-        fields.code,
-        fields.x,
-        fields.y,
-        fields.z,
+        code,
+        x,
+        y,
+        z,
         0,
     ]
 }

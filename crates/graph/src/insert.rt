@@ -1,5 +1,5 @@
 // Interning: the lowest node with the same key, or a new node.
-ghost use Rattle.std.specs.Prelude.{◌≡◌, true, min, max, ◌+◌, ◌-◌, ◌*◌, ◌<◌, ◌≤◌, length, take};
+ghost use Rattle.std.specs.Prelude.{◌≡◌, true, min, max, ◌+◌, ◌-◌, ◌*◌, ◌≤◌, length, take};
 ghost use Rattle.std.proofs.Math.Seq.{paste};
 ghost use Rattle.range.specs.Interval.{interval_of};
 ghost use Rattle.graph.specs.Layout.{REGION, WORDS, KEY, FIRST, LIMIT, count_of};
@@ -14,34 +14,21 @@ use range::{Range, ScalarType};
 
 // Are the words from `at` on the node's key, one by one?
 fn same_words(g: &[u64], at: usize, words: &[u64; SIZE]) -> bool
-    requires { (at + KEY ≤ length g.now) × (length words.now ≡ WORDS) }
+    requires { at + KEY ≤ length g.now }
     ensures { result ≡ same_words g.now at (take KEY words.now) }
 {
-    let mut k = 0;
-    while k < KEY {
-        if g[at + k] != words[k] {
-            return false;
-        }
-        k += 1;
-    }
-    true
+    g[at..at + KEY] == words[..KEY]
 }
 
 // The same: the operation's first two fields and its code tell most nodes apart, so they are compared first.
 fn same_key(g: &[u64], at: usize, words: &[u64; SIZE]) -> bool
-    requires { (at + KEY ≤ length g.now) × (length words.now ≡ WORDS) }
+    requires { at + KEY ≤ length g.now }
     ensures { result ≡ same_words g.now at (take KEY words.now) }
 {
-    if g[at + X] != words[X] {
-        return false;
-    }
-    if g[at + Y] != words[Y] {
-        return false;
-    }
-    if g[at + OPERATION] != words[OPERATION] {
-        return false;
-    }
-    same_words(g, at, words)
+    g[at + X] == words[X]
+        && g[at + Y] == words[Y]
+        && g[at + OPERATION] == words[OPERATION]
+        && same_words(g, at, words)
 }
 
 // How many of the eight nodes whose words begin at `at` come before the first that has this first field? All, if none has it.
@@ -78,11 +65,11 @@ fn apart(g: &[u64], at: usize, first: u64) -> u64
 
 // Past nodes with another first field, sixteen at a time: the search from there on has the same answer. The last sixteen may reach past the end, not past the region.
 fn pass_over(g: &Region, from: u64, end: u64, words: &[u64; SIZE]) -> u64
-    requires { (end ≤ LIMIT) × (length words.now ≡ WORDS) }
+    requires { end ≤ LIMIT }
     ensures { (from ≤ result) × (lowest (same_key g.now words.now) result (end - result) ≡ lowest (same_key g.now words.now) from (end - from)) }
 {
     let first = words[X];
-    let last = if end < LIMIT - 15 { end } else { LIMIT - 15 };
+    let last = end.min(LIMIT - 15);
     let mut node = from;
     while node < last {
         let at = (FIRST + WORDS * node) as usize;
@@ -101,21 +88,18 @@ fn pass_over(g: &Region, from: u64, end: u64, words: &[u64; SIZE]) -> u64
 
 // The lowest node from `from` on, below the count, with this key.
 fn find(g: &Region, from: u64, words: &[u64; SIZE]) -> Option<u64>
-    requires { length words.now ≡ WORDS }
     ensures { result ≡ lowest (same_key g.now words.now) from (min (count_of g.now) LIMIT - from) }
 {
-    let nodes = count(g);
-    let end = if nodes < LIMIT { nodes } else { LIMIT };
+    let end = count(g).min(LIMIT);
     let mut node = pass_over(g, from, end, words);
     while node < end {
         let at = (FIRST + WORDS * node) as usize;
-        if g[at + X] == words[X] {
-            if same_key(g, at, words) {
-                return Some(node);
-            }
-            node += 1;
-        } else {
+        if g[at + X] != words[X] {
             node = pass_over(g, node + 1, end, words);
+        } else if same_key(g, at, words) {
+            return Some(node);
+        } else {
+            node += 1;
         }
     }
     None
@@ -123,19 +107,15 @@ fn find(g: &Region, from: u64, words: &[u64; SIZE]) -> Option<u64>
 
 // Puts the words of a node at `at`.
 pub fn store(g: &mut [u64], at: usize, words: &[u64; SIZE])
-    requires { (at + WORDS ≤ length g.old) × (length words.now ≡ WORDS) }
+    requires { at + WORDS ≤ length g.old }
     ensures { g.new ≡ paste g.old at words.now WORDS }
 {
-    let mut k = 0;
-    while k < SIZE {
-        g[at + k] = words[k];
-        k += 1;
-    }
+    g[at..at + SIZE].copy_from_slice(words);
 }
 
 // A new node, if there is room.
+#[tactic(auto, unfolding(crate::specs::Insert::appended))]
 fn append(g: &mut Region, words: &[u64; SIZE]) -> Built
-    requires { length words.now ≡ WORDS }
     ensures { made (built_of result) g.new ≡ appended g.old words.now }
 {
     let node = count(g);
@@ -153,22 +133,16 @@ fn lowest_id(operation: Operation) -> u64
     ensures { result ≡ min (start (op_of operation)) LIMIT }
 {
     match operation {
-        Operation::Constant(_) => 0,
-        Operation::Input(_) => 0,
-        Operation::Refine(id) => past(id.0, 0),
-        Operation::Effect(_) => 0,
-        Operation::Slice {
-            value,
-            offset: _,
-            width: _,
-        } => past(value.0, 0),
+        Operation::Refine(id)
+        | Operation::Slice { value: id, .. }
+        | Operation::Unary(_, id) => past(id.0, 0),
         Operation::Concat {
-            high,
-            low,
-            low_width: _,
-        } => past(high.0, low.0),
-        Operation::Unary(_, id) => past(id.0, 0),
-        Operation::Binary(_, left, right) => past(left.0, right.0),
+            high: left,
+            low: right,
+            ..
+        }
+        | Operation::Binary(_, left, right) => past(left.0, right.0),
+        _ => 0,
     }
 }
 
@@ -176,8 +150,7 @@ fn lowest_id(operation: Operation) -> u64
 fn past(a: u64, b: u64) -> u64
     ensures { result ≡ min (max a b + 1) LIMIT }
 {
-    let larger = if a < b { b } else { a };
-    if larger < LIMIT { larger + 1 } else { LIMIT }
+    a.max(b).saturating_add(1).min(LIMIT)
 }
 
 // The resolved id of the lowest node with this type, range and operation, or of a new one.
@@ -185,8 +158,7 @@ pub fn insert(g: &mut Region, ty: ScalarType, range: Option<Range>, operation: O
     ensures { made (built_of result) g.new ≡ inserted g.old ty (interval_of range) (op_of operation) }
 {
     let words = words_of(ty, range, operation);
-    let found = find(g, lowest_id(operation), &words);
-    match found {
+    match find(g, lowest_id(operation), &words) {
         Some(node) => Built::Id(resolve(g, NodeId(node))),
         None => append(g, &words),
     }

@@ -1,6 +1,10 @@
 // Where the words of the region stand, and the codes of the operations that are no operators.
-ghost use Rattle.std.specs.Prelude.{◌≡◌, ◌<◌, length};
-ghost use Rattle.graph.specs.Layout.{REGION, WORDS, word_at, count_of};
+ghost use Rattle.std.specs.Prelude.{◌≡◌, ◌<◌, ◌+◌};
+ghost use Rattle.word.specs.Value.{val};
+ghost use Rattle.graph.specs.Layout.{WORDS, word_at, count_of};
+ghost use Rattle.graph.specs.Node.{pair};
+
+use word::Word;
 
 // Words of a node, as an array's length and as a number.
 pub const SIZE: usize = 12;
@@ -15,11 +19,7 @@ pub const RANGE: usize = 2;
 
 pub const MIN: usize = 3;
 
-pub const MIN_HIGH: usize = MIN + 1;
-
 pub const MAX: usize = 5;
-
-pub const MAX_HIGH: usize = MAX + 1;
 // The code of the operation and its three fields.
 pub const OPERATION: usize = 7;
 
@@ -66,6 +66,18 @@ pub fn word_at(g: &Region, node: u64, index: usize) -> u64
         g[(FIRST + WORDS * node) as usize + index]
     } else {
         0
+    }
+}
+
+// The words `index` and the next of a node, the low half first.
+#[tactic(auto, unfolding(word::specs::Value::val))]
+pub fn pair_at(g: &Region, node: u64, index: usize) -> Word
+    requires { index + 1 < WORDS }
+    ensures { val result ≡ pair (word_at g.now node index) (word_at g.now node (index + 1)) }
+{
+    Word {
+        lo: word_at(g, node, index),
+        hi: word_at(g, node, index + 1),
     }
 }
 

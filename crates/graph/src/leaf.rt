@@ -19,41 +19,30 @@ fn constant_range(ty: ScalarType, value: Word) -> Option<Range>
 {
     let signed = value.as_signed();
     match ty {
-        ScalarType::Bool => Some(Range::singleton(signed)),
-        ScalarType::Bits(_) => {
-            if signed.is_negative() {
-                None
-            } else {
-                Some(Range::singleton(signed))
-            }
-        }
-        ScalarType::Integer => Some(Range::singleton(signed)),
+        ScalarType::Bits(_) if signed.is_negative() => None,
+        _ => Some(Range::singleton(signed)),
     }
 }
 
+#[tactic(auto, unfolding(crate::specs::Insert::constant))]
 pub fn constant(g: &mut Region, ty: ScalarType, value: Word) -> Built
     ensures { made (built_of result) g.new ≡ constant g.old ty (val value) }
 {
     let low = reduced(ty, value);
-    let range = constant_range(ty, low);
-    insert(g, ty, range, Operation::Constant(low))
+    insert(g, ty, constant_range(ty, low), Operation::Constant(low))
 }
 
+#[tactic(auto, unfolding(crate::specs::Insert::input))]
 pub fn input(g: &mut Region, id: InputId, ty: ScalarType, range: Option<Range>) -> Built
     ensures { made (built_of result) g.new ≡ input g.old id.0 ty (interval_of range) }
 {
-    match range {
-        Some(given) => insert(g, ty, Some(given), Operation::Input(id)),
-        None => {
-            let whole = type_range(ty);
-            insert(g, ty, whole, Operation::Input(id))
-        }
-    }
+    let range = range.or_else(|| type_range(ty));
+    insert(g, ty, range, Operation::Input(id))
 }
 
+#[tactic(auto, unfolding(crate::specs::Insert::effect))]
 pub fn effect(g: &mut Region, id: EffectId, ty: ScalarType) -> Built
     ensures { made (built_of result) g.new ≡ effect g.old id.0 ty }
 {
-    let whole = type_range(ty);
-    insert(g, ty, whole, Operation::Effect(id))
+    insert(g, ty, type_range(ty), Operation::Effect(id))
 }

@@ -6,7 +6,7 @@ ghost use Rattle.graph.specs.Layout.{REGION};
 ghost use Rattle.graph.specs.Node.{type_of, range_of, operation_of, op_of, type_at, range_at, operation_at, node_of, node_at};
 ghost use Rattle.graph.specs.Insert.{literal, resolve};
 
-use crate::layout::{ALIAS, CONCAT, CONSTANT, EFFECT, INPUT, LIMIT, MAX, MAX_HIGH, MIN, MIN_HIGH, OPERATION, RANGE, REFINE, Region, SLICE, TYPE, WIDTH, X, Y, Z, word_at};
+use crate::layout::{ALIAS, CONCAT, CONSTANT, EFFECT, INPUT, LIMIT, MAX, MIN, OPERATION, RANGE, REFINE, Region, SLICE, TYPE, WIDTH, X, Y, Z, pair_at, word_at};
 use crate::{EffectId, InputId, Node, NodeId, Operation};
 use evaluate::code::{BINARY, BITS, BOOL, binary_of, unary_of};
 use range::{Range, ScalarType};
@@ -16,7 +16,7 @@ use word::Word;
 fn narrow(word: u64) -> u16
     ensures { result ≡ word % 2 ^ 16 }
 {
-    (word % 65536) as u16
+    (word & 0xffff) as u16
 }
 
 pub(crate) fn type_of(code: u64, width: u64) -> ScalarType
@@ -29,7 +29,8 @@ pub(crate) fn type_of(code: u64, width: u64) -> ScalarType
     }
 }
 
-fn range_of(flag: u64, min: Word, max: Word) -> Option<Range>
+// The range of a flag and the patterns of its ends.
+pub fn range_of(flag: u64, min: Word, max: Word) -> Option<Range>
     ensures { interval_of result ≡ range_of flag (val min) (val max) }
 {
     if flag == 0 {
@@ -42,6 +43,7 @@ fn range_of(flag: u64, min: Word, max: Word) -> Option<Range>
 }
 
 // The operation of a code and its three fields; an unknown code below BINARY is taken for BoolNot, another for Add.
+#[tactic(auto, using(crate::proofs::Codes::operator), unfolding(word::specs::Value::val))]
 fn operation_of(code: u64, x: u64, y: u64, z: u64) -> Operation
     ensures { op_of result ≡ operation_of code x y z }
 {
@@ -60,13 +62,8 @@ fn operation_of(code: u64, x: u64, y: u64, z: u64) -> Operation
             low: NodeId(y),
             low_width: narrow(z),
         },
-        _ => {
-            if code < BINARY {
-                Operation::Unary(unary_of(code, narrow(z)), NodeId(x))
-            } else {
-                Operation::Binary(binary_of(code), NodeId(x), NodeId(y))
-            }
-        }
+        _ if code < BINARY => Operation::Unary(unary_of(code, narrow(z)), NodeId(x)),
+        _ => Operation::Binary(binary_of(code), NodeId(x), NodeId(y)),
     }
 }
 
@@ -81,15 +78,7 @@ pub fn range_at(g: &Region, id: NodeId) -> Option<Range>
     ensures { interval_of result ≡ range_at g.now id.0 }
 {
     let n = id.0;
-    let min = Word {
-        lo: word_at(g, n, MIN),
-        hi: word_at(g, n, MIN_HIGH),
-    };
-    let max = Word {
-        lo: word_at(g, n, MAX),
-        hi: word_at(g, n, MAX_HIGH),
-    };
-    range_of(word_at(g, n, RANGE), min, max)
+    range_of(word_at(g, n, RANGE), pair_at(g, n, MIN), pair_at(g, n, MAX))
 }
 
 pub fn operation_at(g: &Region, id: NodeId) -> Operation
@@ -107,26 +96,21 @@ pub fn operation_at(g: &Region, id: NodeId) -> Operation
 pub fn node_at(g: &Region, id: NodeId) -> Node
     ensures { node_of result ≡ node_at g.now id.0 }
 {
-    let ty = type_at(g, id);
-    let range = range_at(g, id);
-    let operation = operation_at(g, id);
     Node {
-        ty: ty,
-        range: range,
-        operation: operation,
+        ty: type_at(g, id),
+        range: range_at(g, id),
+        operation: operation_at(g, id),
     }
 }
 
 // The value of a constant.
+#[tactic(auto, unfolding(crate::specs::Insert::literal, word::specs::Value::val))]
 pub fn literal(g: &Region, id: NodeId) -> Option<Word>
     ensures { number_of result ≡ literal g.now id.0 }
 {
     let n = id.0;
     if word_at(g, n, OPERATION) == CONSTANT {
-        Some(Word {
-            lo: word_at(g, n, X),
-            hi: word_at(g, n, Y),
-        })
+        Some(pair_at(g, n, X))
     } else {
         None
     }
@@ -136,15 +120,13 @@ pub fn literal(g: &Region, id: NodeId) -> Option<Word>
 pub fn resolve(g: &Region, id: NodeId) -> NodeId
     ensures { result.0 ≡ resolve g.now id.0 }
 {
-    let mut at = id.0;
-    let mut left = LIMIT;
-    while 0 < left {
+    let NodeId(mut at) = id;
+    for _ in 0..LIMIT {
         let alias = word_at(g, at, ALIAS);
         if alias == 0 {
             return NodeId(at);
         }
         at = alias - 1;
-        left -= 1;
     }
     NodeId(at)
 }

@@ -33,4 +33,3 @@ pub struct Guard {
     pub expected: bool,
     pub host64: bool,
 }
-

@@ -29,8 +29,11 @@ pub fn mark_in_graph(g: &Region, m: &mut Marks) -> Result<MarkId, Refusal>
 pub fn mark(g: &[u64], m: &mut [u64]) -> Result<MarkId, Refusal>
     ensures { marking (marking_of result) m.new ≡ mark_call g.now m.old }
 {
-    if is_marked(g, m) {
-        mark_in_graph(g, m)
+    let (Some(graph), Some(marks)) = (g.as_array(), m.as_mut_array()) else {
+        return Err(Refusal::Graph);
+    };
+    if is_marked(graph, marks) {
+        mark_in_graph(graph, marks)
     } else {
         Err(Refusal::Graph)
     }
@@ -54,8 +57,11 @@ pub fn return_to_in_graph(g: &mut Region, m: &mut Marks, mark: MarkId) -> Result
 pub fn return_to(g: &mut [u64], m: &mut [u64], mark: MarkId) -> Result<Answer, Refusal>
     ensures { returning (answer_of result) g.new m.new ≡ return_call g.old m.old mark.0 }
 {
-    if is_marked(g, m) {
-        return_to_in_graph(g, m, mark)
+    let (Some(graph), Some(marks)) = (g.as_mut_array(), m.as_mut_array()) else {
+        return Err(Refusal::Graph);
+    };
+    if is_marked(graph, marks) {
+        return_to_in_graph(graph, marks, mark)
     } else {
         Err(Refusal::Graph)
     }

@@ -4,21 +4,19 @@ ghost use Rattle.graph.specs.Layout.{LIMIT};
 ghost use Rattle.mark.specs.Layout.{MARKS, MOST};
 ghost use Rattle.mark.specs.WellFormed.{are_aliases, is_mark, are_marks, is_marked};
 
-use crate::layout::{FIRST, MARKS, MOST, Marks, SPAN};
+use crate::layout::{FIRST, MOST, Marks, SPAN, standing};
 use graph::layout::{NODES, count};
-use graph::well_formed::{is_alias, is_graph};
+use graph::well_formed::{as_graph, is_alias};
 
 // Are the first words alias words of a graph of so many nodes?
 fn are_aliases(words: &[u64], nodes: u64) -> bool
     requires { nodes ≤ length words.now }
     ensures { result ≡ are_aliases words.now nodes }
 {
-    let mut n: u64 = 0;
-    while n < nodes {
+    for n in 0..nodes {
         if !is_alias(n, nodes, words[n as usize]) {
             return false;
         }
-        n += 1;
     }
     true
 }
@@ -39,20 +37,16 @@ fn is_mark(m: &Marks, mark: u64, limit: u64) -> bool
 }
 
 // From the last mark down: none has more nodes than the next one, nor the last more than the graph.
-fn are_marks(m: &[u64], nodes: u64) -> bool
+fn are_marks(m: &Marks, nodes: u64) -> bool
     requires { nodes ≤ LIMIT }
     ensures { result ≡ are_marks nodes m.now }
 {
-    if m.len() != MARKS {
-        return false;
-    }
-    let mut mark = m[0];
-    if MOST < mark {
+    let marks = standing(m);
+    if MOST < marks {
         return false;
     }
     let mut limit = nodes;
-    while 0 < mark {
-        mark -= 1;
+    for mark in (0..marks).rev() {
         if !is_mark(m, mark, limit) {
             return false;
         }
@@ -65,9 +59,11 @@ fn are_marks(m: &[u64], nodes: u64) -> bool
 pub fn is_marked(g: &[u64], m: &[u64]) -> bool
     ensures { result ≡ is_marked g.now m.now }
 {
-    if is_graph(g) {
-        are_marks(m, count(g))
-    } else {
-        false
-    }
+    let Some(graph) = as_graph(g) else {
+        return false;
+    };
+    let Some(marks) = m.as_array() else {
+        return false;
+    };
+    are_marks(marks, count(graph))
 }

@@ -37,14 +37,9 @@ use graph::layout::Region;
 fn is_unary_open(g: &Region, ty: ScalarType, op: Unary, value: NodeId) -> bool
     ensures { result ≡ not (is_some (literal g.now value.0)) && not (same_type ty (type.Bits (unary_width op)) && not (is_stop (modular_plan g.now value.0 (unary_width op)))) }
 {
-    if is_some(literal(g, value)) {
-        return false;
-    }
     let width = op.width();
-    if same_type(ty, ScalarType::Bits(width)) {
-        return !has_modular_plan(g, value, width);
-    }
-    true
+    let is_reduction = same_type(ty, ScalarType::Bits(width));
+    literal(g, value).is_none() && !(is_reduction && has_modular_plan(g, value, width))
 }
 
 pub(crate) fn unary(
@@ -64,35 +59,21 @@ pub(crate) fn unary(
         }
     }
     let done = build::unary(g, full_budget(), ty, op, value);
-    let built = done.built;
-    settle(built, full)
+    settle(done.built, full)
 }
 
 // Is there a masked comparison to try?
 fn is_masked(g: &Region, op: Binary, left: NodeId, right: NodeId) -> bool
     ensures { result ≡ is_any equalities op && is_some (fold_masked_comparison g.now op left.0 right.0) }
 {
-    if !is_equality(op) {
-        return false;
-    }
-    let comparison = fold_masked_comparison(g, op, left, right);
-    match comparison {
-        Some(_) => true,
-        None => false,
-    }
+    is_equality(op) && fold_masked_comparison(g, op, left, right).is_some()
 }
 
 // Does binary decide by its plan alone? The left operand is no constant, no shift is folded, and no masked comparison is tried.
 fn is_binary_open(g: &Region, op: Binary, left: NodeId, right: NodeId) -> bool
     ensures { result ≡ not (is_some (literal g.now left.0)) && (not (is_any shifts op) && not (is_any equalities op && is_some (fold_masked_comparison g.now op left.0 right.0))) }
 {
-    if is_some(literal(g, left)) {
-        return false;
-    }
-    if is_folded_shift(op) {
-        return false;
-    }
-    !is_masked(g, op, left, right)
+    literal(g, left).is_none() && !is_folded_shift(op) && !is_masked(g, op, left, right)
 }
 
 pub(crate) fn binary(
@@ -114,21 +95,14 @@ pub(crate) fn binary(
         }
     }
     let done = build::binary(g, full_budget(), ty, op, left, right);
-    let built = done.built;
-    settle(built, full)
+    settle(done.built, full)
 }
 
 // Does slice decide by its plan alone? The operand is no constant, and no slice from 0 is a truncation pushed through it.
 fn is_slice_open(g: &Region, value: NodeId, offset: u64, width: u16) -> bool
     ensures { result ≡ not (is_some (literal g.now value.0)) && not (eqb offset 0 && not (is_stop (modular_plan g.now value.0 width))) }
 {
-    if is_some(literal(g, value)) {
-        return false;
-    }
-    if offset == 0 {
-        return !has_modular_plan(g, value, width);
-    }
-    true
+    literal(g, value).is_none() && !(offset == 0 && has_modular_plan(g, value, width))
 }
 
 pub(crate) fn slice(g: &mut Region, value: NodeId, offset: u64, width: u16, full: Refusal) -> Result<Answer, Refusal>
@@ -142,6 +116,5 @@ pub(crate) fn slice(g: &mut Region, value: NodeId, offset: u64, width: u16, full
         }
     }
     let done = build::slice(g, full_budget(), value, offset, width);
-    let built = done.built;
-    settle(built, full)
+    settle(done.built, full)
 }

@@ -51,7 +51,7 @@ fn assume_or_restore(g: &mut Region, condition: NodeId, expected: bool, full: Re
         return Ok(Answer::Done);
     }
     let nodes = count(g);
-    let mut aliases: [u64; NODES] = [0; NODES];
+    let mut aliases = [0; NODES];
     save_aliases(g, &mut aliases);
     let outcome = guard_assumed::assume_guard(g, condition, expected);
     match outcome {
@@ -78,28 +78,15 @@ fn work(g: &mut Region, request: Request, full: Refusal) -> Result<Answer, Refus
         Request::Slice(value, offset, width) => direct::slice(g, value, offset as u64, width, full),
         Request::Concat(high, low, low_width, width) => {
             let done = build::concat(g, full_budget(), high, low, low_width, width);
-            let built = done.built;
-            settle(built, full)
+            settle(done.built, full)
         }
         Request::UnsignedRange(value, low, high) => {
             let done = range_test::unsigned_range(g, full_budget(), value, low, high);
-            let built = done.built;
-            settle(built, full)
+            settle(done.built, full)
         }
         Request::Guard(condition, expected) => assume_or_restore(g, condition, expected, full),
         Request::UnnamedLeaf(_) => Err(Refusal::Typing),
-        Request::UnnamedOperation(_, _, _, _) => Err(Refusal::Typing),
-    }
-}
-
-fn is_refused(answer: Result<Answer, Refusal>) -> bool
-    ensures { result ≡ is_refused (answer_of answer) }
-{
-    match answer {
-        Ok(Answer::Id(_)) => false,
-        Ok(Answer::None) => false,
-        Ok(Answer::Done) => false,
-        Err(_) => true,
+        Request::UnnamedOperation(..) => Err(Refusal::Typing),
     }
 }
 
@@ -108,7 +95,7 @@ fn take_back(g: &mut Region, nodes: u64, answer: Result<Answer, Refusal>)
     requires { nodes ≤ LIMIT }
     ensures { g.new ≡ left nodes (answer_of answer) g.old }
 {
-    if is_refused(answer) {
+    if answer.is_err() {
         clear_from(g, nodes);
     }
 }

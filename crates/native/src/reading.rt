@@ -23,11 +23,7 @@ pub fn literal_in_graph(g: &Region, id: NodeId) -> Result<Option<Word>, Refusal>
     ensures { outcome_of result ≡ literal_in_graph g.now id.0 }
 {
     if id.0 < count(g) {
-        let value = read::literal(g, id);
-        match value {
-            Some(found) => Ok(Some(found)),
-            None => Ok(None),
-        }
+        Ok(read::literal(g, id))
     } else {
         Err(Refusal::Id)
     }
@@ -36,7 +32,9 @@ pub fn literal_in_graph(g: &Region, id: NodeId) -> Result<Option<Word>, Refusal>
 pub fn literal(g: &[u64], id: NodeId) -> Result<Option<Word>, Refusal>
     ensures { outcome_of result ≡ literal_call g.now id.0 }
 {
-    let region = as_graph(g).ok_or(Refusal::Graph)?;
+    let Some(region) = as_graph(g) else {
+        return Err(Refusal::Graph);
+    };
     literal_in_graph(region, id)
 }
 
@@ -55,7 +53,9 @@ pub fn resolve_in_graph(g: &Region, id: NodeId) -> Result<Answer, Refusal>
 pub fn resolve(g: &[u64], id: NodeId) -> Result<Answer, Refusal>
     ensures { answer_of result ≡ resolve_call g.now id.0 }
 {
-    let region = as_graph(g).ok_or(Refusal::Graph)?;
+    let Some(region) = as_graph(g) else {
+        return Err(Refusal::Graph);
+    };
     resolve_in_graph(region, id)
 }
 
@@ -64,24 +64,20 @@ pub fn guard_in_graph(g: &Region, condition: NodeId, expected: bool) -> Result<O
     requires { is_graph g.now ≡ true }
     ensures { reading_of result ≡ guard_in_graph g.now condition.0 expected }
 {
-    if condition.0 < count(g) {
-        if same_type(type_at(g, condition), ScalarType::Bool) {
-            let found = guarded::guarded(g, condition, expected);
-            match found {
-                Some(guard) => Ok(Some(guard)),
-                None => Ok(None),
-            }
-        } else {
-            Err(Refusal::Typing)
-        }
-    } else {
-        Err(Refusal::Id)
+    if count(g) <= condition.0 {
+        return Err(Refusal::Id);
     }
+    if !same_type(type_at(g, condition), ScalarType::Bool) {
+        return Err(Refusal::Typing);
+    }
+    Ok(guarded::guarded(g, condition, expected))
 }
 
 pub fn guard(g: &[u64], condition: NodeId, expected: bool) -> Result<Option<Guard>, Refusal>
     ensures { reading_of result ≡ guard_call g.now condition.0 expected }
 {
-    let region = as_graph(g).ok_or(Refusal::Graph)?;
+    let Some(region) = as_graph(g) else {
+        return Err(Refusal::Graph);
+    };
     guard_in_graph(region, condition, expected)
 }

@@ -1,9 +1,10 @@
--- Laws of the walk down a chain of Refines to a type, one step each, and of what the test for None tells.
+-- Laws of the walk down a chain of Refines to a type, one step each, and what the test for None tells.
 use mathlib.Core.Path.{◌≡◌, refl}
 use mathlib.Core.Bool.{true, false, false≢true}
 use mathlib.Core.List.{List}
-use Rattle.std.specs.Prelude.{None, Some}
-use Prim.Native.Nat.{ℕ, zero, suc}
+use Rattle.std.specs.Prelude.{Some}
+use Prim.Native.Nat.{ℕ, zero, suc, ◌<◌}
+use native.Mathlib.Omega.{arith}
 use Rattle.range.specs.declared.ScalarType.{ScalarType}
 use Rattle.graph.specs.Node.{type_at}
 use Rattle.fold.specs.Shape.{same_type, refined_at}
@@ -11,21 +12,18 @@ use Rattle.plan.specs.declared.Plan as declared
 use Rattle.plan.specs.declared.Plan.TheVariants as plan
 use Rattle.plan.specs.Plan as spec
 use Rattle.plan.specs.Plan.{Plan, stop, plan_of, is_stop}
-use Rattle.plan.specs.OneOperand.{same, source, view_from}
+use Rattle.plan.specs.OneOperand.{same, view_from}
 
 module _ (g : List ℕ) (n : ℕ) where
-  pub view_end : (t : ScalarType) (k : ℕ) → refined_at g n ≡ None → view_from g t k n ≡ source n
-  view_end t zero e = refl
-  view_end t (suc k) e = rw e
-
-  pub view_same : (t : ScalarType) (k j p : ℕ) → k ≡ suc j → refined_at g n ≡ Some p → same_type (type_at g p) t ≡ true → view_from g t k n ≡ same p
-  view_same t k j p h e f = rw (h, e, f)
+  pub view_same : (t : ScalarType) (k p : ℕ) → 0 < k → refined_at g n ≡ Some p → same_type (type_at g p) t ≡ true → view_from g t k n ≡ same p
+  view_same t zero p h e f = absurd (omega arith)
+  view_same t (suc k) p h e f = rw (e, f)
 
   pub view_on : (t : ScalarType) (k j p : ℕ) → k ≡ suc j → refined_at g n ≡ Some p → same_type (type_at g p) t ≡ false
       → view_from g t k n ≡ view_from g t j p
   view_on t k j p h e f = rw (h, e, f)
 
--- what the `else` of `let Plan::None = .. else` knows
+-- a plan of the code that is not None
 pub no_stop : (p : declared.Plan) → (p ≡ plan.None → ⊥) → is_stop (plan_of p) ≡ false
 no_stop (plan.Give n) h = refl
 no_stop plan.None h = absurd (h refl)

@@ -13,7 +13,7 @@ use evaluate::Unary;
 use evaluate::one_operand::unary_value;
 use fold::new_range::unary_range;
 use fold::operator::is_modular;
-use fold::shape::{fits, is_not_negative, refined_at, same_type};
+use fold::shape::{fits, is_not_negative, refined_at};
 use graph::layout::{LIMIT, Region};
 use graph::read::{literal, operation_at, range_at, resolve, type_at};
 use graph::{NodeId, Operation};
@@ -26,28 +26,19 @@ fn view_plan(ty: ScalarType, range: Option<Range>, value: NodeId) -> Plan
 {
     let view = Plan::Add(range, Operation::Refine(value), ty);
     match ty {
-        ScalarType::Bool => { if fits(range, 1) { view } else { Plan::None } }
-        ScalarType::Bits(width) => {
-            if fits(range, width) {
-                view
-            } else {
-                Plan::Unary(value, ty, Unary::Truncate(width))
-            }
-        }
-        ScalarType::Integer => {
-            if is_not_negative(range) {
-                view
-            } else {
-                Plan::None
-            }
-        }
+        ScalarType::Bool if fits(range, 1) => view,
+        ScalarType::Bits(width) if fits(range, width) => view,
+        ScalarType::Bits(width) => Plan::Unary(value, ty, Unary::Truncate(width)),
+        ScalarType::Integer if is_not_negative(range) => view,
+        _ => Plan::None,
     }
 }
 
+#[tactic(auto, unfolding(crate::specs::OneOperand::identity_plan))]
 pub fn identity_plan(g: &Region, ty: ScalarType, value: NodeId) -> Plan
     ensures { plan_of result ≡ identity_plan g.now ty value.0 }
 {
-    if same_type(type_at(g, value), ty) {
+    if type_at(g, value) == ty {
         return Plan::Give(value);
     }
     view_plan(ty, range_at(g, value), value)
@@ -57,19 +48,7 @@ pub fn identity_plan(g: &Region, ty: ScalarType, value: NodeId) -> Plan
 fn is_reduction(ty: ScalarType, op: Unary) -> bool
     ensures { result ≡ is_reduction ty op }
 {
-    match ty {
-        ScalarType::Bool => false,
-        ScalarType::Bits(target) => match op {
-            Unary::BoolNot => false,
-            Unary::BitNot => false,
-            Unary::Negate => false,
-            Unary::Truncate(width) => target == width,
-            Unary::SignExtend(_) => false,
-            Unary::LeadingZeros(_) => false,
-            Unary::TrailingZeros(_) => false,
-        },
-        ScalarType::Integer => false,
-    }
+    matches!(op, Unary::Truncate(width) if ty == ScalarType::Bits(width))
 }
 
 // Does the operator leave a value of this type and range as it is?
@@ -77,29 +56,14 @@ fn is_view(op: Unary, ty: ScalarType, range: Option<Range>) -> bool
     ensures { result ≡ is_view op ty (interval_of range) }
 {
     match op {
-        Unary::BoolNot => false,
-        Unary::BitNot => false,
-        Unary::Negate => false,
-        Unary::Truncate(width) => {
-            if fits(range, width) {
-                true
-            } else {
-                same_type(ty, ScalarType::Bits(width))
-            }
-        }
-        Unary::SignExtend(width) => {
-            if width == 0 || 128 < width {
-                return false;
-            }
-            fits(range, width - 1)
-        }
-        Unary::LeadingZeros(_) => false,
-        Unary::TrailingZeros(_) => false,
+        Unary::Truncate(width) => fits(range, width) || ty == ScalarType::Bits(width),
+        Unary::SignExtend(width) => 0 < width && width <= 128 && fits(range, width - 1),
+        _ => false,
     }
 }
 
 // A node with its range, or None.
-pub(crate) fn add_or_none(ty: ScalarType, derived: Option<Option<Range>>, operation: Operation) -> Plan
+fn add_or_none(ty: ScalarType, derived: Option<Option<Range>>, operation: Operation) -> Plan
     ensures { plan_of result ≡ add_or ty (derived_of derived) (op_of operation) }
 {
     match derived {
@@ -119,6 +83,7 @@ pub fn constant_or_none(ty: ScalarType, value: Option<Word>) -> Plan
 }
 
 // unary after modular: the value itself, or a node.
+#[tactic(auto, unfolding(crate::specs::OneOperand::unary_plan))]
 pub fn unary_plan(g: &Region, ty: ScalarType, op: Unary, value: NodeId) -> Plan
     ensures { plan_of result ≡ unary_plan g.now ty op value.0 }
 {
@@ -141,34 +106,32 @@ fn unary_open(g: &Region, ty: ScalarType, op: Unary, value: NodeId) -> First
     First::Do(unary_plan(g, ty, op, value))
 }
 
+#[tactic(auto, unfolding(crate::specs::OneOperand::unary_first))]
 pub fn unary_first(g: &Region, ty: ScalarType, op: Unary, value: NodeId) -> First
     ensures { first_of result ≡ unary_first g.now ty op value.0 }
 {
-    let known = literal(g, value);
-    match known {
+    match literal(g, value) {
         Some(constant) => First::Do(constant_or_none(ty, unary_value(op, constant))),
         None => unary_open(g, ty, op, value),
     }
 }
 
 // Down a chain of Refines to the first source of the type, or to where the chain starts.
+#[tactic(auto, using(crate::proofs::Laws::view_same, crate::proofs::Laws::view_on), unfolding(crate::specs::OneOperand::view_at))]
 fn view_at(g: &Region, ty: ScalarType, id: NodeId) -> View
     ensures { view_of result ≡ view_at g.now ty id.0 }
 {
-    let mut at = id.0;
-    let mut left = LIMIT;
-    while 0 < left {
-        let source = refined_at(g, NodeId(at));
-        let Some(previous) = source else {
-            return View::Source(NodeId(at));
+    let mut at = id;
+    for _ in 0..LIMIT {
+        let Some(previous) = refined_at(g, at) else {
+            return View::Source(at);
         };
-        if same_type(type_at(g, previous), ty) {
+        if type_at(g, previous) == ty {
             return View::Same(previous);
         }
-        at = previous.0;
-        left -= 1;
+        at = previous;
     }
-    View::Source(NodeId(at))
+    View::Source(at)
 }
 
 // Integer, or Bits of at least that width: a narrower reduction has to stay visible.
@@ -186,44 +149,23 @@ fn truncated_plan(width: u16, operation: Operation) -> Plan
     ensures { plan_of result ≡ truncated_plan width (op_of operation) }
 {
     match operation {
-        Operation::Constant(_) => Plan::None,
-        Operation::Input(_) => Plan::None,
-        Operation::Refine(_) => Plan::None,
-        Operation::Effect(_) => Plan::None,
-        Operation::Slice {
-            value: _,
-            offset: _,
-            width: _,
-        } => Plan::None,
-        Operation::Concat {
-            high: _,
-            low: _,
-            low_width: _,
-        } => Plan::None,
-        Operation::Unary(_, _) => Plan::None,
-        Operation::Binary(op, left, right) => {
-            if is_modular(op) {
-                Plan::Truncated(left, right, width, op)
-            } else {
-                Plan::None
-            }
+        Operation::Binary(op, left, right) if is_modular(op) => {
+            Plan::Truncated(left, right, width, op)
         }
+        _ => Plan::None,
     }
 }
 
+#[tactic(auto, unfolding(crate::specs::OneOperand::modular_plan))]
 pub fn modular_plan(g: &Region, value: NodeId, width: u16) -> Plan
     ensures { plan_of result ≡ modular_plan g.now value.0 width }
 {
-    let view = view_at(g, ScalarType::Bits(width), value);
-    match view {
+    match view_at(g, ScalarType::Bits(width), value) {
         View::Same(previous) => Plan::Give(resolve(g, previous)),
-        View::Source(source) => {
-            if is_wide(type_at(g, source), width) {
-                truncated_plan(width, operation_at(g, source))
-            } else {
-                Plan::None
-            }
+        View::Source(source) if is_wide(type_at(g, source), width) => {
+            truncated_plan(width, operation_at(g, source))
         }
+        View::Source(_) => Plan::None,
     }
 }
 
@@ -231,9 +173,5 @@ pub fn modular_plan(g: &Region, value: NodeId, width: u16) -> Plan
 pub fn has_modular_plan(g: &Region, value: NodeId, width: u16) -> bool
     ensures { result ≡ not (is_stop (modular_plan g.now value.0 width)) }
 {
-    let plan = modular_plan(g, value, width);
-    let Plan::None = plan else {
-        return true;
-    };
-    false
+    !matches!(modular_plan(g, value, width), Plan::None)
 }

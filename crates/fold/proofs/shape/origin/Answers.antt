@@ -1,37 +1,17 @@
-use mathlib.Core.Path.{◌≡◌, refl, sym, ap, ◌∙◌}
-use Prim.Native.Nat.{ℕ, suc, ◌-◌}
+use mathlib.Core.Path.{◌≡◌, refl, sym, ◌∙◌}
+use Prim.Native.Nat.{suc, ◌+◌, ◌-◌}
 use native.Mathlib.Omega.{arith}
-use Rattle.fold.specs.Shape.{id_of, down, origin}
-use Rattle.fold.proofs.Laws.{down_end, down_on}
+use Rattle.graph.specs.Layout.{LIMIT}
+use Rattle.fold.specs.Shape.{origin}
+use Rattle.fold.proofs.Laws.{down_on}
 use Rattle.fold.proofs.shape.origin.Goals as goal
 
-pub loop-left-init : goal.loop-left-init
+pub loop-init : goal.loop-init
 unfolding origin
-loop-left-init c = refl
+loop-init c = refl
 
-pub returns-in_default : goal.returns-in_default
-returns-in_default c =
-    let g = c.args.g.now in
-    let l = c.loop-left in
-    sym (l.invariant ∙ down_end g l.at l.left (sym c.refined_at-source.ensures ∙ ap id_of c.in_default.is))
-
-pub overflow_sub-left : goal.overflow_sub-left
-overflow_sub-left c = omega arith
-
-pub loop-left-smaller : goal.loop-left-smaller
-loop-left-smaller c = omega arith
-
-pub loop-left-preserved : goal.loop-left-preserved
-loop-left-preserved c =
-    let g = c.args.g.now in
-    let l = c.loop-left in
-    let e : l.left ≡ suc (l.left - 1) = omega arith in
-    l.invariant
-    ∙ down_on g l.at l.left (l.left - 1) _ e (sym c.refined_at-source.ensures ∙ ap id_of c.in-Some.is)
-
-pub returns : goal.returns
-returns c =
-    let g = c.args.g.now in
-    let l = c.loop-left in
-    let e : l.left ≡ 0 = omega arith in
-    sym (l.invariant ∙ ap (λ (k : ℕ). down g k l.at) e)
+pub loop-preserved : goal.loop-preserved
+loop-preserved c =
+    let l = c.loop in
+    let e : LIMIT - l.counter ≡ suc (LIMIT - (l.counter + 1)) = omega arith in
+    l.invariant ∙ down_on c.args.g.now l.at.0 _ _ _ e (sym c.in-Some.ensures)

@@ -1,9 +1,9 @@
+-- The way down from the node so far, by the steps left, ends where the whole way does.
 use mathlib.Core.Path.{◌≡◌}
+use Prim.Native.Nat.{◌-◌}
+use Rattle.graph.specs.Layout.{LIMIT}
 use Rattle.fold.specs.Shape.{down, origin}
 use Rattle.fold.proofs.shape.origin.Given as goal
 
-abbrev pub invariant-loop-left : goal.invariant-loop-left
-invariant-loop-left l = origin l.g l.initial.at ≡ down l.g l.left l.at
-
-abbrev pub decreases-loop-left : goal.decreases-loop-left
-decreases-loop-left l = l.left
+abbrev pub invariant-loop : goal.invariant-loop
+invariant-loop l = origin l.g l.initial.at.0 ≡ down l.g (LIMIT - l.counter) l.at.0

@@ -10,14 +10,11 @@ use Rattle.graph.specs.Insert.{same_key, lowest}
 use Rattle.graph.proofs.Interned.{word_differs}
 use Rattle.graph.proofs.Search.{lowest_at, lowest_on, lowest_end}
 use Rattle.graph.proofs.insert.find.Goals as goal
-use Rattle.graph.proofs.insert.find.Goals.{then-nodes-lt-LIMIT, else-nodes-lt-LIMIT}
 
 pub loop-node-init : goal.loop-node-init
 loop-node-init c =
     let n = count_of c.args.g.now in
-    let e : c.if-nodes-lt-LIMIT.end ≡ min n LIMIT =
-    elim c.if-nodes-lt-LIMIT.branch [ then-nodes-lt-LIMIT w ↦ omega (arith, c.count-nodes.ensures) | else-nodes-lt-LIMIT w ↦ omega (arith, c.count-nodes.ensures) ]
-    in
+    let e : c.min-end.result ≡ min n LIMIT = omega (arith, c.count.ensures, c.min-end.ensures) in
     (e, omega (arith, min-le_right n LIMIT), sym c.pass_over-node.ensures.1)
 
 pub returns-then-same_key : goal.returns-then-same_key
@@ -28,36 +25,36 @@ returns-then-same_key c =
     sym
     (ap (λ (n : ℕ). lowest p a.from (n - a.from)) (sym l.invariant.0)
     ∙ l.invariant.2
-    ∙ lowest_at p l.node c.if-nodes-lt-LIMIT.end (search rules) (sym c.same_key.ensures ∙ c.if-same_key.true))
+    ∙ lowest_at p l.node c.min-end.result (search rules) (sym c.same_key.ensures ∙ c.if-same_key.true))
 
-pub loop-node-preserved-then-g-at : goal.loop-node-preserved-then-g-at
-loop-node-preserved-then-g-at c =
+pub loop-node-preserved : goal.loop-node-preserved
+loop-node-preserved c =
     let a = c.args in
     let l = c.loop-node in (
       l.invariant.0,
       l.invariant.1,
       l.invariant.2
-          ∙ lowest_on (same_key a.g.now a.words.now) l.node c.if-nodes-lt-LIMIT.end (search rules)
+          ∙ lowest_on (same_key a.g.now a.words.now) l.node c.min-end.result (search rules)
           (sym c.same_key.ensures ∙ c.if-same_key.false),
     )
 
-pub pass_over-node-requires-else-g-at : goal.pass_over-node-requires-else-g-at
-pass_over-node-requires-else-g-at c = search (rules, c.loop-node.invariant.1)
+pub pass_over-node-requires-then-g-at : goal.pass_over-node-requires-then-g-at
+pass_over-node-requires-then-g-at c = search (rules, c.loop-node.invariant.1)
 
-pub loop-node-smaller : goal.loop-node-smaller
-loop-node-smaller c = omega (arith, c.pass_over-node-else-g-at.ensures.0, c.loop-node-test.true)
+pub loop-node-smaller-then-g-at : goal.loop-node-smaller-then-g-at
+loop-node-smaller-then-g-at c = omega (arith, c.pass_over-node-then-g-at.ensures.0, c.loop-node-test.true)
 
-pub loop-node-preserved : goal.loop-node-preserved
-loop-node-preserved c =
+pub loop-node-preserved-then-g-at : goal.loop-node-preserved-then-g-at
+loop-node-preserved-then-g-at c =
     let a = c.args in
     let l = c.loop-node in
-    let k : KEY ≤ length a.words.now = omega (arith, c.requires) in (
+    let k : KEY ≤ length a.words.now = search rules in (
       l.invariant.0,
       l.invariant.1,
       l.invariant.2
-          ∙ lowest_on (same_key a.g.now a.words.now) l.node c.if-nodes-lt-LIMIT.end (search rules)
-          (word_differs a.g.now (node_start l.node) KEY a.words.now k X (lit< tt) c.if-g-at.false)
-          ∙ sym c.pass_over-node-else-g-at.ensures.1,
+          ∙ lowest_on (same_key a.g.now a.words.now) l.node c.min-end.result (search rules)
+          (word_differs a.g.now (node_start l.node) KEY a.words.now k X (lit< tt) c.if-g-at.true)
+          ∙ sym c.pass_over-node-then-g-at.ensures.1,
     )
 
 pub returns : goal.returns
@@ -68,4 +65,4 @@ returns c =
     sym
     (ap (λ (n : ℕ). lowest p a.from (n - a.from)) (sym l.invariant.0)
     ∙ l.invariant.2
-    ∙ lowest_end p l.node c.if-nodes-lt-LIMIT.end (search rules))
+    ∙ lowest_end p l.node c.min-end.result (search rules))

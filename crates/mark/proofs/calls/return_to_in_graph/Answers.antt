@@ -5,16 +5,10 @@ use Rattle.mark.specs.Mark.{returning, return_in_graph}
 use Rattle.mark.proofs.Facts.{marked_both, regions_facts}
 use Rattle.mark.proofs.calls.return_to_in_graph.Goals as goal
 
-pub standing-requires : goal.standing-requires
-standing-requires c = (regions_facts _ _ c.requires).1.length
-
 pub go_back-requires : goal.go_back-requires
 go_back-requires c =
     let f = regions_facts _ _ c.requires in
-    ((marked_both c.args.g.now c.args.m.now c.requires).0, f.1.length, omega (arith, c.standing.ensures, c.if-number-standing.true, f.1.most), f.1.first.fewer c.args.mark.0 (omega (arith, c.standing.ensures, c.if-number-standing.true)))
-
-pub leave_standing-requires : goal.leave_standing-requires
-leave_standing-requires c = (regions_facts _ _ c.requires).1.length
+    ((marked_both c.args.g.now c.args.m.now c.requires).0, omega (arith, c.standing.ensures, c.if-number-standing.true, f.1.most), f.1.first.fewer c.args.mark.0 (omega (arith, c.standing.ensures, c.if-number-standing.true)))
 
 pub returns-then-number-standing : goal.returns-then-number-standing
 unfolding return_in_graph

@@ -9,3 +9,6 @@ use Rattle.mark.proofs.moving.go_back.Goals as goal
 pub returns : goal.returns
 unfolding returned
 returns c = rw add-sub_cancel_left at c.restore_to.ensures
+
+pub restore_to-requires : goal.restore_to-requires
+restore_to-requires c = ?

@@ -9,16 +9,6 @@ use Rattle.mark.specs.Layout.{mark_start}
 use Rattle.mark.proofs.Marks.{marked_by_lem}
 use Rattle.mark.proofs.moving.set_mark.Goals as goal
 
-pub bounds-m-at : goal.bounds-m-at
-bounds-m-at c = simp length-set (omega arith)
-
-pub shape_of-m : goal.shape_of-m
-shape_of-m c =
-    let a = c.args in
-    let m = set (set a.m.now 0 (a.mark + 1)) (mark_start a.mark) c.count.result in
-    same_len_mid {X = ℕ} (mark_start a.mark + 1) (mark_start a.mark + 1 + LIMIT - (mark_start a.mark + 1)) m c.save_aliases.new.words c.save_aliases.auto.words
-    ∙ length-set (set a.m.now 0 (a.mark + 1)) _ _ ∙ length-set a.m.now _ _
-
 pub returns : goal.returns
 returns c =
     let a = c.args in

@@ -7,9 +7,6 @@ use Rattle.mark.proofs.retain_nodes.retain_in_graph.Goals as goal
 pub retain_unmarked_in_graph-retained-requires : goal.retain_unmarked_in_graph-retained-requires
 retain_unmarked_in_graph-retained-requires c = (marked_both _ _ c.requires).0
 
-pub drop_marks-requires : goal.drop_marks-requires
-drop_marks-requires c = (regions_facts _ _ c.requires).1.length
-
 pub returns : goal.returns
 unfolding retain_in_graph
 returns c =

@@ -1,12 +1,9 @@
+-- The first words are alias words.
 use mathlib.Core.Path.{◌≡◌}
 use mathlib.Core.Bool.{true}
-use Prim.Native.Nat.{◌-◌, ◌≤◌}
 use lib.ListN.{get_or}
 use Rattle.graph.specs.WellFormed.{is_alias, all_pass}
 use Rattle.mark.proofs.well_formed.are_aliases.Given as goal
 
 abbrev pub invariant-loop-n : goal.invariant-loop-n
-invariant-loop-n l = (l.n ≤ l.nodes) × (all_pass (λ i. is_alias i l.nodes (get_or l.words i 0)) l.n ≡ true)
-
-abbrev pub decreases-loop-n : goal.decreases-loop-n
-decreases-loop-n l = l.nodes - l.n
+invariant-loop-n l = all_pass (λ i. is_alias i l.nodes (get_or l.words i 0)) l.n ≡ true

@@ -22,3 +22,9 @@ returns-in-Narrowed c = rw (← c.assume_guard-outcome.ensures, c.in-Narrowed.is
 
 pub returns-in-Full : goal.returns-in-Full
 returns-in-Full c = rw (← c.assume_guard-outcome.ensures, c.in-Full.is) (ap (called (refused _)) (taken_back _ _ _ _ _ _ _ _ _ c.requires (length-replicate {A = ℕ} LIMIT 0) c.count-nodes.ensures c.save_aliases.ensures c.assume_guard-outcome.ensures c.restore.ensures))
+
+pub save_aliases-requires : goal.save_aliases-requires
+save_aliases-requires c = (length-replicate {A = ℕ} LIMIT 0, (graph_facts _ c.requires).count)
+
+pub restore-requires : goal.restore-requires
+restore-requires c = (c.save_aliases.auto.words, rw c.count-nodes.ensures (graph_facts _ c.requires).count)

@@ -24,3 +24,6 @@ returns-then-not-is_declarable c = rw (sym c.are_widths.ensures ∙ c.if-not-are
 pub returns : goal.returns
 unfolding performed
 returns c = rw (sym c.are_widths.ensures ∙ c.if-not-are_widths.false, sym (rw c.count-nodes.ensures at c.are_ids.ensures) ∙ c.if-not-are_ids.false, sym c.is_typed.ensures ∙ c.if-not-is_typed.false, sym c.is_declarable.ensures ∙ c.if-not-is_declarable.false) (taken_finished _ _ _ _ (request_of c.args.request) _ c.requires c.work-answer.ensures (rw c.count-nodes.ensures at c.take_back.ensures))
+
+pub take_back-requires : goal.take_back-requires
+take_back-requires c = rw c.count-nodes.ensures (graph_facts _ c.requires).count

@@ -1,14 +1,11 @@
+-- `guard` meets its contract: question 1, then the call in a graph.
 use Rattle.native.specs.Guard.{guard_call}
-use mathlib.Core.Path.{sym, ◌∙◌}
 use Rattle.native.proofs.reading.guard.Goals as goal
 
-pub guard_in_graph-requires : goal.guard_in_graph-requires
-guard_in_graph-requires c = sym c.is_graph.ensures ∙ c.if-is_graph.true
-
-pub returns-then-is_graph : goal.returns-then-is_graph
+pub returns-in_default : goal.returns-in_default
 unfolding guard_call
-returns-then-is_graph c = rw (← c.is_graph.ensures, c.if-is_graph.true) c.guard_in_graph.ensures
+returns-in_default c = rw c.in_default.ensures
 
-pub returns-else-is_graph : goal.returns-else-is_graph
+pub returns : goal.returns
 unfolding guard_call
-returns-else-is_graph c = rw (← c.is_graph.ensures, c.if-is_graph.false)
+returns c = rw (c.in-Some.ensures.0, ← c.in-Some.ensures.1) c.guard_in_graph.ensures

@@ -1,20 +1,19 @@
-use Rattle.native.specs.Guard.{guard_in_graph}
-use Rattle.graph.proofs.Grown.{graph_facts}
+-- `guard_in_graph` meets its contract: questions 3 and 4, then the condition's guard.
+use Rattle.native.specs.Guard.{guard_in_graph, answered}
+use Rattle.native.proofs.Parts.{guard_answered}
 use borrow.Author.Tests.{lt-ltb, le-ltb}
+use mathlib.Core.Path.{ap, ◌∙◌}
 use Rattle.native.proofs.reading.guard_in_graph.Goals as goal
 
-pub returns-in-Some : goal.returns-in-Some
+pub returns-then-count-condition : goal.returns-then-count-condition
 unfolding guard_in_graph
-returns-in-Some c = rw (← c.count.ensures, lt-ltb _ _ c.if-condition-count.true, ← c.type_at.ensures, ← c.same_type.ensures, c.if-same_type.true, ← c.guarded-found.ensures, c.in-Some.is)
+returns-then-count-condition c = rw (← c.count.ensures, le-ltb _ _ c.if-count-condition.true)
 
-pub returns-in-None : goal.returns-in-None
+pub returns-then-not-same_type : goal.returns-then-not-same_type
 unfolding guard_in_graph
-returns-in-None c = rw (← c.count.ensures, lt-ltb _ _ c.if-condition-count.true, ← c.type_at.ensures, ← c.same_type.ensures, c.if-same_type.true, ← c.guarded-found.ensures, c.in-None.is)
+returns-then-not-same_type c = rw (← c.count.ensures, lt-ltb _ _ c.if-count-condition.false, ← c.type_at.ensures, ← c.same_type.ensures, c.if-not-same_type.true)
 
-pub returns-else-same_type : goal.returns-else-same_type
+pub returns : goal.returns
 unfolding guard_in_graph
-returns-else-same_type c = rw (← c.count.ensures, lt-ltb _ _ c.if-condition-count.true, ← c.type_at.ensures, ← c.same_type.ensures, c.if-same_type.false)
-
-pub returns-else-condition-count : goal.returns-else-condition-count
-unfolding guard_in_graph
-returns-else-condition-count c = rw (← c.count.ensures, le-ltb _ _ c.if-condition-count.false)
+returns c = rw (← c.count.ensures, lt-ltb _ _ c.if-count-condition.false, ← c.type_at.ensures, ← c.same_type.ensures, c.if-not-same_type.false)
+    (guard_answered c.guarded.result ∙ ap answered c.guarded.ensures)

@@ -1,9 +1,8 @@
 use mathlib.Core.Path.{◌≡◌}
+use Prim.Native.Nat.{◌-◌}
+use Rattle.graph.specs.Layout.{LIMIT}
 use Rattle.plan.specs.OneOperand.{view_from, view_at}
 use Rattle.plan.proofs.one_operand.view_at.Given as goal
 
-abbrev pub invariant-loop-left : goal.invariant-loop-left
-invariant-loop-left l = view_at l.g l.ty l.initial.at ≡ view_from l.g l.ty l.left l.at
-
-abbrev pub decreases-loop-left : goal.decreases-loop-left
-decreases-loop-left l = l.left
+abbrev pub invariant-loop : goal.invariant-loop
+invariant-loop l = view_at l.g l.ty l.initial.at.0 ≡ view_from l.g l.ty (LIMIT - l.counter) l.at.0

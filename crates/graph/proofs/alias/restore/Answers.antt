@@ -1,1 +1,0 @@
--- `restore` meets its contract: past the last node that there can be no word follows. Assumes nothing.
