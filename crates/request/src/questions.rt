@@ -10,12 +10,11 @@ use crate::Request;
 use crate::typing::{is_binary_typed, is_concat_typed, is_unary_typed};
 use evaluate::code::WIDEST;
 use evaluate::type_width;
-use fold::shape::same_type;
 use graph::NodeId;
+use graph::layout::Region;
 use graph::read::type_at;
 use range::{Range, ScalarType};
 use word::Word;
-use graph::layout::Region;
 
 fn is_width(width: u16) -> bool
     ensures { result ≡ all_up_to WIDEST (width ∷ []) }
@@ -26,11 +25,7 @@ fn is_width(width: u16) -> bool
 fn are_two_widths(first: u16, second: u16) -> bool
     ensures { result ≡ all_up_to WIDEST (first ∷ second ∷ []) }
 {
-    if first <= WIDEST {
-        is_width(second)
-    } else {
-        false
-    }
+    is_width(first) && is_width(second)
 }
 
 // Question 2: are all widths at most the widest?
@@ -45,8 +40,8 @@ pub fn are_widths(request: Request) -> bool
         Request::Binary(_, _, ty, _) => is_width(type_width(ty)),
         Request::Slice(_, _, width) => is_width(width),
         Request::Concat(_, _, low_width, width) => are_two_widths(low_width, width),
-        Request::UnsignedRange(_, _, _) => true,
-        Request::Guard(_, _) => true,
+        Request::UnsignedRange(..) => true,
+        Request::Guard(..) => true,
         Request::UnnamedLeaf(width) => is_width(width),
         Request::UnnamedOperation(_, _, width, parameter) => are_two_widths(width, parameter),
     }
@@ -61,11 +56,7 @@ fn is_id(nodes: u64, id: NodeId) -> bool
 fn are_two_ids(nodes: u64, first: NodeId, second: NodeId) -> bool
     ensures { result ≡ all_below nodes (first.0 ∷ second.0 ∷ []) }
 {
-    if first.0 < nodes {
-        is_id(nodes, second)
-    } else {
-        false
-    }
+    is_id(nodes, first) && is_id(nodes, second)
 }
 
 // Question 3: are all ids below the number of nodes?
@@ -73,9 +64,9 @@ pub fn are_ids(nodes: u64, request: Request) -> bool
     ensures { result ≡ all_below nodes (ids (request_of request)) }
 {
     match request {
-        Request::Constant(_, _) => true,
-        Request::Input(_, _, _) => true,
-        Request::Effect(_, _) => true,
+        Request::Constant(..) => true,
+        Request::Input(..) => true,
+        Request::Effect(..) => true,
         Request::Unary(value, _, _) => is_id(nodes, value),
         Request::Binary(left, right, _, _) => are_two_ids(nodes, left, right),
         Request::Slice(value, _, _) => is_id(nodes, value),
@@ -92,21 +83,17 @@ pub fn is_typed(g: &Region, request: Request) -> bool
     ensures { result ≡ typed g.now (request_of request) }
 {
     match request {
-        Request::Constant(_, _) => true,
-        Request::Input(_, _, _) => true,
-        Request::Effect(_, _) => true,
         Request::Unary(value, ty, op) => is_unary_typed(op, type_at(g, value), ty),
         Request::Binary(left, right, ty, op) => {
             is_binary_typed(op, type_at(g, left), type_at(g, right), ty)
         }
-        Request::Slice(_, _, _) => true,
         Request::Concat(high, low, low_width, width) => {
             is_concat_typed(type_at(g, high), type_at(g, low), low_width, width)
         }
-        Request::UnsignedRange(_, _, _) => true,
-        Request::Guard(condition, _) => same_type(type_at(g, condition), ScalarType::Bool),
+        Request::Guard(condition, _) => type_at(g, condition) == ScalarType::Bool,
         Request::UnnamedLeaf(_) => false,
-        Request::UnnamedOperation(_, _, _, _) => false,
+        Request::UnnamedOperation(..) => false,
+        _ => true,
     }
 }
 
@@ -114,11 +101,7 @@ pub fn is_typed(g: &Region, request: Request) -> bool
 fn is_bool_value(ty: ScalarType, value: Word) -> bool
     ensures { result ≡ is_bool_value ty (val value) }
 {
-    match ty {
-        ScalarType::Bool => value.lt(Word { lo: 2, hi: 0 }),
-        ScalarType::Bits(_) => true,
-        ScalarType::Integer => true,
-    }
+    ty != ScalarType::Bool || value < Word::from(2)
 }
 
 // Is a range not empty and inside its type?
@@ -126,14 +109,7 @@ fn is_range_of(ty: ScalarType, range: Option<Range>) -> bool
     ensures { result ≡ is_range_of ty (interval_of range) }
 {
     match range {
-        Some(given) => {
-            let min = given.min;
-            if min.le(given.max) {
-                given.is_inside(ty)
-            } else {
-                false
-            }
-        }
+        Some(given) => given.min <= given.max && given.is_inside(ty),
         None => true,
     }
 }
@@ -145,14 +121,6 @@ pub fn is_declarable(request: Request) -> bool
     match request {
         Request::Constant(value, ty) => is_bool_value(ty, value),
         Request::Input(_, range, ty) => is_range_of(ty, range),
-        Request::Effect(_, _) => true,
-        Request::Unary(_, _, _) => true,
-        Request::Binary(_, _, _, _) => true,
-        Request::Slice(_, _, _) => true,
-        Request::Concat(_, _, _, _) => true,
-        Request::UnsignedRange(_, _, _) => true,
-        Request::Guard(_, _) => true,
-        Request::UnnamedLeaf(_) => true,
-        Request::UnnamedOperation(_, _, _, _) => true,
+        _ => true,
     }
 }

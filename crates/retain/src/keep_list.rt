@@ -10,80 +10,52 @@ use graph::layout::{CONCAT, OPERATION, REFINE, Region, SLICE, X, Y, count, word_
 pub fn has_first(code: u64) -> bool
     ensures { result ≡ has_first code }
 {
-    if code == REFINE { true } else { SLICE <= code }
+    code == REFINE || SLICE <= code
 }
 
 // Does field Y?
 pub fn has_second(code: u64) -> bool
     ensures { result ≡ has_second code }
 {
-    if code == CONCAT { true } else { BINARY <= code }
+    code == CONCAT || BINARY <= code
 }
 
 fn is_kept(keep: &[u8], id: u64) -> bool
     ensures { result ≡ is_kept keep.now id }
 {
-    if id < keep.len() as u64 {
-        keep[id as usize] == 1
-    } else {
-        false
-    }
+    keep.get(id as usize) == Some(&1)
 }
 
 fn are_operands_kept(g: &Region, keep: &[u8], node: u64) -> bool
     ensures { result ≡ are_kept keep.now (operands_at g.now node) }
 {
     let code = word_at(g, node, OPERATION);
-    if !has_first(code) {
-        return true;
-    }
-    if !is_kept(keep, word_at(g, node, X)) {
-        return false;
-    }
-    if has_second(code) {
-        is_kept(keep, word_at(g, node, Y))
-    } else {
-        true
-    }
+    !has_first(code)
+        || (is_kept(keep, word_at(g, node, X))
+            && (!has_second(code) || is_kept(keep, word_at(g, node, Y))))
 }
 
 fn is_allowed(g: &Region, keep: &[u8], node: u64) -> bool
     requires { node < length keep.now }
     ensures { result ≡ is_allowed g.now keep.now node }
 {
-    let element = keep[node as usize];
-    if element == 0 {
-        return true;
-    }
-    if element == 1 {
-        are_operands_kept(g, keep, node)
-    } else {
-        false
+    match keep[node as usize] {
+        0 => true,
+        1 => are_operands_kept(g, keep, node),
+        _ => false,
     }
 }
 
 fn are_allowed(g: &Region, keep: &[u8]) -> bool
     ensures { result ≡ are_allowed g.now keep.now (length keep.now) }
 {
-    let mut node = 0;
-    while node < keep.len() {
-        if !is_allowed(g, keep, node as u64) {
-            return false;
-        }
-        node += 1;
-    }
-    true
+    (0..keep.len() as u64).all(|node| is_allowed(g, keep, node))
 }
 
+#[tactic(auto, unfolding(crate::specs::Retain::is_keep_list))]
 pub fn is_keep_list(g: &Region, keep: &[u8], mapping: &[u64]) -> bool
     ensures { result ≡ is_keep_list g.now keep.now mapping.now }
 {
     let nodes = count(g);
-    if keep.len() as u64 != nodes {
-        return false;
-    }
-    if mapping.len() as u64 != nodes {
-        return false;
-    }
-    are_allowed(g, keep)
+    keep.len() as u64 == nodes && mapping.len() as u64 == nodes && are_allowed(g, keep)
 }

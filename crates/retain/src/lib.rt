@@ -21,11 +21,7 @@ fn renumbered(mapping: &[u64], is_operand: bool, word: u64) -> u64
     ensures { result ≡ through (λ i. get_or mapping.now i DROPPED) is_operand word }
 {
     if is_operand {
-        if word < mapping.len() as u64 {
-            mapping[word as usize]
-        } else {
-            DROPPED
-        }
+        mapping.get(word as usize).copied().unwrap_or(DROPPED)
     } else {
         word
     }
@@ -36,10 +32,8 @@ fn moved_words(g: &Region, mapping: &[u64], node: u64) -> [u64; SIZE]
     ensures { result ≡ moved_words (λ i. get_or mapping.now i DROPPED) g.now node }
 {
     let mut words = [0; SIZE];
-    let mut k = 0;
-    while k < X {
+    for k in 0..X {
         words[k] = word_at(g, node, k);
-        k += 1;
     }
     let code = words[OPERATION];
     words[X] = renumbered(mapping, has_first(code), word_at(g, node, X));
@@ -48,6 +42,7 @@ fn moved_words(g: &Region, mapping: &[u64], node: u64) -> [u64; SIZE]
     words
 }
 
+#[tactic(auto, unfolding(crate::specs::Retain::moved_words))]
 fn move_node(g: &mut Region, mapping: &[u64], node: u64, to: u64)
     requires { to < LIMIT }
     ensures { g.new ≡ moved mapping.now g.old node to }
@@ -61,14 +56,14 @@ fn place(g: &mut Region, keep: &[u8], mapping: &mut [u64], node: u64, next: u64)
     requires { (next < LIMIT) × (node < length keep.now) × (node < length mapping.old) }
     ensures { (result ≡ cond (is_kept keep.now node) (suc next) next) × (g.new ≡ cond (is_kept keep.now node) (moved mapping.old g.old node next) g.old) × (mapping.new ≡ set mapping.old node (cond (is_kept keep.now node) next DROPPED)) }
 {
-    if keep[node as usize] == 1 {
+    let (id, free) = if keep[node as usize] == 1 {
         move_node(g, mapping, node, next);
-        mapping[node as usize] = next;
-        next + 1
+        (next, next + 1)
     } else {
-        mapping[node as usize] = DROPPED;
-        next
-    }
+        (DROPPED, next)
+    };
+    mapping[node as usize] = id;
+    free
 }
 
 // Moves the kept nodes down and fills the mapping; the number of nodes left. An operand lies below its node, so that its new id is known.
@@ -78,10 +73,8 @@ pub fn retain(g: &mut Region, keep: &[u8], mapping: &mut [u64]) -> u64
 {
     let nodes = count(g);
     let mut next = 0;
-    let mut node = 0;
-    while node < nodes {
+    for node in 0..nodes {
         next = place(g, keep, mapping, node, next);
-        node += 1;
     }
     clear_to(g, next, nodes);
     next

@@ -1,17 +1,13 @@
-use mathlib.Core.Path.{◌≡◌, refl, sym, ap, ◌∙◌}
+use mathlib.Core.Path.{◌≡◌, sym, ap, ◌∙◌}
 use mathlib.Core.List.{List, ◌++◌}
 use Prim.Native.Nat.{ℕ, suc, ◌+◌, ◌-◌}
 use native.Mathlib.Numerals.{add-one}
 use native.Mathlib.Omega.{arith}
-use lib.Dec.{lit≤}
-use lib.ListN.{set, replicate, length-set}
+use lib.ListN.{set, replicate}
 use Rattle.graph.specs.Layout.{X, WORDS, word_at, words_from}
 use Rattle.retain.specs.Retain.{moved_words}
 use Rattle.retain.proofs.Moving.{filled}
 use Rattle.retain.proofs.moved_words.Goals as goal
-
-pub loop-k-init : goal.loop-k-init
-loop-k-init c = (lit≤ tt, refl, refl)
 
 pub loop-k-preserved : goal.loop-k-preserved
 loop-k-preserved c =
@@ -20,14 +16,12 @@ loop-k-preserved c =
     let word = word_at a.g.now a.node in
     let front = words_from a.g.now a.node 0 in
     let r : WORDS - l.k ≡ suc (WORDS - (l.k + 1)) = omega arith in
-    let z : l.k ≡ 0 + l.k = omega arith in (
-      omega arith,
-      length-set l.words l.k c.word_at.result ∙ l.invariant.1,
-      ap (set l.words l.k) c.word_at.ensures ∙ ap (λ (ws : List ℕ). set ws l.k (word l.k)) l.invariant.2
-          ∙ (λ i. set (front l.k ++ replicate (r i) 0) l.k (word (z i)))
-          ∙ filled a.g.now a.node 0 l.k (WORDS - (l.k + 1))
-          ∙ ap (λ (m : ℕ). front m ++ replicate (WORDS - (l.k + 1)) 0) (sym (add-one l.k)),
-    )
+    let z : l.k ≡ 0 + l.k = omega arith in
+    ap (set l.words l.k) c.word_at.ensures
+    ∙ ap (λ (ws : List ℕ). set ws l.k (word l.k)) l.invariant
+    ∙ (λ i. set (front l.k ++ replicate (r i) 0) l.k (word (z i)))
+    ∙ filled a.g.now a.node 0 l.k (WORDS - (l.k + 1))
+    ∙ ap (λ (m : ℕ). front m ++ replicate (WORDS - (l.k + 1)) 0) (sym (add-one l.k))
 
 pub returns : goal.returns
 unfolding moved_words
@@ -36,7 +30,7 @@ returns c =
     let l = c.loop-k in
     let e : l.k ≡ X = omega arith in
     let w : l.words ≡ words_from a.g.now a.node 0 X ++ replicate (WORDS - X) 0 =
-    l.invariant.2 ∙ ap (λ (m : ℕ). words_from a.g.now a.node 0 m ++ replicate (WORDS - m) 0) e in
+    l.invariant ∙ ap (λ (m : ℕ). words_from a.g.now a.node 0 m ++ replicate (WORDS - m) 0) e in
     simp (
       w,
       c.renumbered.ensures,

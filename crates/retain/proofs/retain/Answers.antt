@@ -12,18 +12,6 @@ loop-node-init c =
     let a = c.args in
     moving_begins a.g.now a.keep.now a.mapping.now (graph_facts a.g.now c.requires.0).length (keep_list_facts a.g.now a.keep.now a.mapping.now c.requires.1).ids
 
-pub overflow_add-node : goal.overflow_add-node
-overflow_add-node c =
-    let a = c.args in
-    let l = c.loop-node in
-    let f = graph_facts a.g.now c.requires.0 in
-    let k = keep_list_facts a.g.now a.keep.now a.mapping.now c.requires.1 in
-    omega (arith, f.count)
-
-pub loop-node-smaller : goal.loop-node-smaller
-loop-node-smaller c =
-    omega arith
-
 pub loop-node-preserved : goal.loop-node-preserved
 loop-node-preserved c =
     let a = c.args in

@@ -1,10 +1,6 @@
--- The loop's invariant: the first nodes are done. The measure is what is left of the count.
-use Prim.Native.Nat.{◌-◌}
+-- The loop's invariant: the first nodes are done.
 use Rattle.retain.proofs.Moving.{Moving}
 use Rattle.retain.proofs.retain.Given as goal
 
 abbrev pub invariant-loop-node : goal.invariant-loop-node
 invariant-loop-node l = Moving l.initial.g l.keep l.g l.mapping l.next l.node
-
-abbrev pub decreases-loop-node : goal.decreases-loop-node
-decreases-loop-node l = l.nodes - l.node

@@ -1,32 +1,14 @@
-use mathlib.Core.Path.{◌≡◌, refl, sym, ap, ◌∙◌}
-use native.Mathlib.Omega.{arith}
-use borrow.Author.Rules.{rules}
-use lib.ListN.{length}
-use Rattle.graph.proofs.Tests.{pass_on, pass_off}
-use Rattle.retain.specs.Retain.{is_allowed, are_allowed}
+-- `keep_list::are_allowed` meets its contract: `all` tests the numbers below the keep list's length.
+use Rattle.std.proofs.Common.{length, refl, ◌∙◌, arith, rules, tests}
+use Rattle.std.proofs.lemmas.Iterator.{YieldsList-from_range}
+use Rattle.std.proofs.lemmas.Iterator.Search.{all_from_yields_List}
+use Rattle.graph.proofs.Tests.{passes}
+use Rattle.retain.specs.Retain.{is_allowed}
 use Rattle.retain.proofs.keep_list.are_allowed.Goals as goal
-
-pub loop-node-init : goal.loop-node-init
-loop-node-init c = (search rules, refl)
-
-pub returns-then-not-is_allowed : goal.returns-then-not-is_allowed
-returns-then-not-is_allowed c =
-    let a = c.args in
-    let l = c.loop-node in
-    sym (pass_off (is_allowed a.g.now a.keep.now) l.node (sym c.is_allowed.ensures ∙ c.if-not-is_allowed.true) (length a.keep.now) c.loop-node-test.true)
-
-pub overflow_add-node : goal.overflow_add-node
-overflow_add-node c = omega arith
-
-pub loop-node-preserved : goal.loop-node-preserved
-loop-node-preserved c =
-    let a = c.args in
-    let l = c.loop-node in
-    (search rules, pass_on (is_allowed a.g.now a.keep.now) l.node l.invariant.1 (sym c.is_allowed.ensures ∙ c.if-not-is_allowed.false))
 
 pub returns : goal.returns
 returns c =
     let a = c.args in
-    let l = c.loop-node in
-    let e : length a.keep.now ≡ l.node = omega arith in
-    sym (ap (are_allowed a.g.now a.keep.now) e ∙ l.invariant.1)
+    let n = length a.keep.now in
+    all_from_yields_List (is_allowed a.g.now a.keep.now) _ _ _ c.all.ensures.ran (YieldsList-from_range 0 n n refl (omega arith)) (λ x b q k. search (rules, tests))
+    ∙ passes (is_allowed a.g.now a.keep.now) n

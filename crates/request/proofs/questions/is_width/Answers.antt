@@ -1,5 +1,0 @@
-use Rattle.graph.proofs.Tests.{both_true}
-use Rattle.request.proofs.questions.is_width.Goals as goal
-
-pub returns : goal.returns
-returns c = both_true _
