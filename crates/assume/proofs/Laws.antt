@@ -1,6 +1,6 @@
 -- Laws of the definitions that the code's proofs use. Assumes nothing.
 use mathlib.Core.Path.{◌≡◌, refl}
-use mathlib.Core.Bool.{Bool, true, false, cond, not, ◌&&◌}
+use mathlib.Core.Bool.{Bool, true, false, ◌&&◌}
 use mathlib.Core.List.{List}
 use Rattle.std.specs.Prelude.{Option, None}
 use Prim.Native.Nat.{ℕ, suc}
@@ -14,12 +14,7 @@ use Rattle.graph.specs.Insert.{resolve}
 use Rattle.fold.specs.Shape.{is_any}
 use Rattle.fold.specs.Operator.{sums}
 use Rattle.assume.specs.Limits.{Limits}
-use Rattle.assume.specs.Refine.{undone, Next, Outcome, narrowed, step, refine_step, assumed, go_on, refine_up_to}
-
--- the other way round
-pub cond-not : {A : Type 0} (e : Bool) (x y : A) → cond (not e) x y ≡ cond e y x
-cond-not true x y = refl
-cond-not false x y = refl
+use Rattle.assume.specs.Refine.{undone, Next, Outcome, narrowed, step, refine_step, go_on, refine_up_to}
 
 -- only sums are undone
 pub not_sum : (t : ScalarType) (o : Binary) (c : ℕ) (a : Interval) → is_any sums o ≡ false → undone t o c a ≡ None
@@ -31,12 +26,6 @@ not_sum (ty.Bits w) o c a e = rw e (by (ltb w 128) _)
     by true r = refl
     by false r = refl
 not_sum ty.Integer o c a e = rw e
-
--- ---- the steps of a refinement
-
--- no step is left
-pub steps_none : (left : ℕ) (so : Outcome) (g : List ℕ) (n : ℕ) (l : Limits) → left ≡ 0 → refine_up_to left so g n l ≡ assumed so g
-steps_none left so g n l e = rw e
 
 -- one step more, at the node that n resolves to
 pub steps_on : (k left : ℕ) (so : Outcome) (g h : List ℕ) (n t : ℕ) (l : Limits) → left ≡ suc k → t ≡ resolve g n

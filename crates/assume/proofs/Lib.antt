@@ -4,3 +4,4 @@ pub mod Same
 pub mod Grows
 pub mod Steps
 pub mod Idle
+pub mod Both

@@ -1,6 +1,7 @@
 -- Refining a node to limits (assume.rs 26 to 79), on the words of the region.
 use Rattle.std.specs.Prelude.{cond, ◌&&◌, List, ℕ, zero, suc, ◌%◌, ◌^◌, ltb, leb, ℤ, ◌+ℤ◌, ◌-ℤ◌}
 use Rattle.std.specs.Prelude.{Option, None, Some}
+use Rattle.std.specs.Prelude.{Result, Ok, Err}
 use Rattle.word.specs.Value.{residue, signed, fitted}
 use Rattle.word.specs.Option.{only, provided, mapped, given}
 use Rattle.range.specs.Interval.{Interval, bounds_of, between}
@@ -19,6 +20,9 @@ use Rattle.fold.specs.Operator.{sums}
 use Rattle.fold.specs.Shape.{same_type, same_binary, is_any, ByConstant, by_constant_at, origin}
 use Rattle.assume.specs.declared.Outcome as declared-outcome
 use Rattle.assume.specs.declared.Outcome.TheVariants as outcomes
+use Rattle.assume.specs.declared.Full as declared-full
+use Rattle.assume.specs.declared.Step as declared-step
+use Rattle.assume.specs.declared.Step.TheVariants as steps
 use Rattle.assume.specs.declared.Next as declared-next
 use Rattle.assume.specs.Limits.{Limits, limited_to, meet, narrows}
 
@@ -74,11 +78,11 @@ pub data Outcome : Type 0 where
   narrowed : Outcome
   full : Outcome
 
--- what an Outcome of the code stands for
-abbrev pub outcome_of : declared-outcome.Outcome → Outcome
-outcome_of outcomes.Unchanged = unchanged
-outcome_of outcomes.Narrowed = narrowed
-outcome_of outcomes.Full = full
+-- what an Outcome of the code, or no room, stands for
+abbrev pub outcome_of : Result declared-outcome.Outcome declared-full.Full → Outcome
+outcome_of (Ok outcomes.Unchanged) = unchanged
+outcome_of (Ok outcomes.Narrowed) = narrowed
+outcome_of (Err r) = full
 
 -- what one refinement did, the node that follows, and the words of the region after it
 pub record Step : Type 0 where
@@ -89,6 +93,17 @@ pub record Step : Type 0 where
 -- a step by its three parts
 abbrev pub step : Outcome → Option Next → List ℕ → Step
 step o x h = record { outcome = o; next = x; words = h }
+
+-- what a Step of the code, or no room, stands for
+abbrev pub step_of : Result declared-step.Step declared-full.Full → List ℕ → Step
+step_of (Ok steps.Unchanged) h = step unchanged None h
+step_of (Ok (steps.Narrowed x)) h = step narrowed (next_of x) h
+step_of (Err r) h = step full None h
+
+-- what the node that follows a narrowed one, or no room, stands for
+abbrev pub narrowing_of : Result (Option declared-next.Next) declared-full.Full → List ℕ → Step
+narrowing_of (Ok x) h = step narrowed (next_of x) h
+narrowing_of (Err r) h = step full None h
 
 -- after the Refine was stored or found: node n gets it as its alias (39)
 abbrev pub alias_to : ℕ → Interval → Reply → List ℕ → Step

@@ -1,41 +1,41 @@
 // Through a sum with a constant to its base (assume.rs 40 to 78).
-ghost use Rattle.std.specs.Prelude.{◌≡◌, length};
+ghost use Rattle.std.specs.Prelude.{◌≡◌};
 ghost use Rattle.word.specs.Value.{val, int_of, value_of};
-ghost use Rattle.word.specs.Option.{mapped};
 ghost use Rattle.range.specs.Interval.{bounds_of, interval_of};
-ghost use Rattle.graph.specs.Layout.{REGION};
 ghost use Rattle.fold.specs.Shape.{one_by_constant_of};
-ghost use Rattle.assume.specs.Refine.{undone_bits, ordered, undone_integer, undone, next, next_of, base_by, base_of};
+ghost use Rattle.assume.specs.Refine.{undone_bits, ordered, undone_integer, undone, next_of, base_by, base_of};
 
 use crate::Next;
 use evaluate::Binary;
 use evaluate::pattern::low_bits;
-use fold::operator::{is_sum, same_binary};
-use fold::shape::{by_constant_at, origin, same_type};
 use fold::ByConstant;
+use fold::operator::is_sum;
+use fold::shape::{by_constant_at, origin};
 use graph::NodeId;
+use graph::layout::Region;
 use graph::read::type_at;
 use range::arithmetic::between;
 use range::{Range, ScalarType};
 use word::{Signed, Word};
-use graph::layout::Region;
 
 // The x of Bits(width) with x + offset, or x - offset, equal to the value.
 fn undone_bits(width: u16, op: Binary, offset: Word, value: Signed) -> Word
     ensures { val result ≡ undone_bits width op (val offset) (int_of value) }
 {
     let pattern = value.as_word();
-    if same_binary(op, Binary::Sub) {
-        return low_bits(pattern.wrapping_add(offset), width);
-    }
-    low_bits(pattern.wrapping_sub(offset), width)
+    let undone = if op == Binary::Sub {
+        pattern.wrapping_add(offset)
+    } else {
+        pattern.wrapping_sub(offset)
+    };
+    low_bits(undone, width)
 }
 
 // From one to the other, where they come in this order.
 fn ordered(a: Word, b: Word) -> Option<Range>
     ensures { interval_of result ≡ ordered (val a) (val b) }
 {
-    if a.le(b) {
+    if a <= b {
         Some(Range {
             min: a.as_signed(),
             max: b.as_signed(),
@@ -48,7 +48,7 @@ fn ordered(a: Word, b: Word) -> Option<Range>
 fn undone_integer(op: Binary, offset: Signed, value: Signed) -> Option<Signed>
     ensures { value_of result ≡ undone_integer op (int_of offset) (int_of value) }
 {
-    if same_binary(op, Binary::Sub) {
+    if op == Binary::Sub {
         value.checked_add(offset)
     } else {
         value.checked_sub(offset)
@@ -56,6 +56,7 @@ fn undone_integer(op: Binary, offset: Signed, value: Signed) -> Option<Signed>
 }
 
 // The range of x, where x + offset or x - offset lies in the range.
+#[tactic(auto, using(crate::proofs::Laws::not_sum), unfolding(crate::specs::Refine::undone))]
 fn undone(ty: ScalarType, op: Binary, offset: Word, range: Range) -> Option<Range>
     ensures { interval_of result ≡ undone ty op (val offset) (bounds_of range) }
 {
@@ -63,17 +64,10 @@ fn undone(ty: ScalarType, op: Binary, offset: Word, range: Range) -> Option<Rang
         return None;
     }
     match ty {
-        ScalarType::Bool => None,
-        ScalarType::Bits(width) => {
-            if width < 128 {
-                ordered(
-                    undone_bits(width, op, offset, range.min),
-                    undone_bits(width, op, offset, range.max),
-                )
-            } else {
-                None
-            }
-        }
+        ScalarType::Bits(width) if width < 128 => ordered(
+            undone_bits(width, op, offset, range.min),
+            undone_bits(width, op, offset, range.max),
+        ),
         ScalarType::Integer => {
             let signed = offset.as_signed();
             between(
@@ -81,18 +75,7 @@ fn undone(ty: ScalarType, op: Binary, offset: Word, range: Range) -> Option<Rang
                 undone_integer(op, signed, range.max),
             )
         }
-    }
-}
-
-fn next_at(node: NodeId, range: Option<Range>) -> Option<Next>
-    ensures { next_of result ≡ mapped (next node.0) (interval_of range) }
-{
-    match range {
-        Some(bounds) => Some(Next {
-            node: node,
-            range: bounds,
-        }),
-        None => None,
+        _ => None,
     }
 }
 
@@ -100,22 +83,19 @@ fn next_at(node: NodeId, range: Option<Range>) -> Option<Next>
 fn base_by(g: &Region, ty: ScalarType, range: Range, shape: ByConstant) -> Option<Next>
     ensures { next_of result ≡ base_by g.now ty (bounds_of range) (one_by_constant_of shape) }
 {
-    let base = shape.base;
-    let op = shape.op;
-    if same_type(type_at(g, base), ty) {
-        next_at(base, undone(ty, op, shape.value, range))
-    } else {
-        None
+    let ByConstant { op, base, value } = shape;
+    if type_at(g, base) != ty {
+        return None;
     }
+    let range = undone(ty, op, value, range)?;
+    Some(Next { node: base, range })
 }
 
 // What follows for the base, if the node is, through its Refines, a sum with a constant.
+#[tactic(auto, unfolding(crate::specs::Refine::base_of))]
 pub fn base_of(g: &Region, node: NodeId, range: Range) -> Option<Next>
     ensures { next_of result ≡ base_of g.now node.0 (bounds_of range) }
 {
-    let found = by_constant_at(g, origin(g, node));
-    match found {
-        Some(shape) => base_by(g, type_at(g, node), range, shape),
-        None => None,
-    }
+    let shape = by_constant_at(g, origin(g, node))?;
+    base_by(g, type_at(g, node), range, shape)
 }

@@ -25,13 +25,24 @@ pub struct Pair {
     pub right: Limits,
 }
 
-// Nothing is written, nodes are narrowed, or there is no room for a node.
+// Two operands, and their limits.
+#[derive(Clone, Copy)]
+pub(crate) struct Sides {
+    pub left: NodeId,
+    pub right: NodeId,
+    pub limits: Pair,
+}
+
+// Nothing is written, or nodes are narrowed.
 #[derive(Clone, Copy)]
 pub enum Outcome {
     Unchanged,
     Narrowed,
-    Full,
 }
+
+// There is no room for a node.
+#[derive(Clone, Copy)]
+pub struct Full;
 
 // A node, and the range to which it is refined next.
 #[derive(Clone, Copy)]
@@ -40,9 +51,9 @@ pub struct Next {
     pub range: Range,
 }
 
-// What one refinement did, and the node that follows.
+// What one refinement did; after it a node may follow.
 #[derive(Clone, Copy)]
-pub struct Step {
-    pub outcome: Outcome,
-    pub next: Option<Next>,
+pub(crate) enum Step {
+    Unchanged,
+    Narrowed(Option<Next>),
 }

@@ -3,75 +3,56 @@ ghost use Rattle.std.specs.Prelude.{cond, ◌≡◌};
 ghost use Rattle.word.specs.Value.{int_of, value_of, eq_z};
 ghost use Rattle.word.specs.Option.{provided};
 ghost use Rattle.range.specs.Interval.{bounds_of};
-ghost use Rattle.assume.specs.Limits.{limits_of, limited_to, or_end, meet, narrows, limits, pair_of, one_more, one_less, less_limits, not_less_limits, less_equal_limits, greater_limits, equal_limits, besides, apart_limits, comparable, limits_by};
+ghost use Rattle.assume.specs.Limits.{limits_of, limited_to, meet, narrows, limits, pair, pair_of, one_more, one_less, less_limits, less_equal_limits, equal_limits, besides, apart_limits, comparable, limits_by};
 
 use crate::{Limits, Pair};
 use evaluate::Binary;
 use fold::compare::unsigned_too;
-use fold::operator::{is_strict_order, is_unsigned_order, same_binary};
-use fold::shape::same_type;
+use fold::operator::is_unsigned_order;
 use range::{Range, ScalarType};
 use word::Signed;
 
-fn or_end(limit: Option<Signed>, end: Signed) -> Signed
-    ensures { int_of result ≡ or_end (value_of limit) (int_of end) }
-{
-    match limit {
-        Some(value) => value,
-        None => end,
-    }
-}
-
 // The range met with limits.
+#[tactic(auto, using(word::proofs::Compared::max_signed, word::proofs::Compared::min_signed), unfolding(crate::specs::Limits::meet))]
 pub fn meet(range: Range, limits: Limits) -> Range
     ensures { bounds_of result ≡ meet (bounds_of range) (limits_of limits) }
 {
-    let min = range.min;
-    let max = range.max;
-    let lower = limits.lower;
-    let upper = limits.upper;
+    let Range { min, max } = range;
     Range {
-        min: min.max(or_end(lower, min)),
-        max: max.min(or_end(upper, max)),
+        min: min.max(limits.lower.unwrap_or(min)),
+        max: max.min(limits.upper.unwrap_or(max)),
     }
 }
 
 // Is there something to narrow? Not if the range stays, if nothing is left of it, or on Bool.
+#[tactic(auto, unfolding(crate::specs::Limits::narrows))]
 pub fn narrows(ty: ScalarType, old: Range, met: Range) -> bool
     ensures { result ≡ narrows ty (bounds_of old) (bounds_of met) }
 {
-    if met.eq(old) {
-        return false;
-    }
-    let min = met.min;
-    if min.le(met.max) {
-        !same_type(ty, ScalarType::Bool)
-    } else {
-        false
-    }
+    met != old && met.min <= met.max && ty != ScalarType::Bool
 }
 
+#[tactic(auto, unfolding(word::specs::Value::int_of))]
 fn one_more(value: Signed) -> Option<Signed>
     ensures { value_of result ≡ one_more (int_of value) }
 {
-    value.checked_add(Signed { lo: 1, hi: 0 })
+    value.checked_add(Signed::ONE)
 }
 
+#[tactic(auto, unfolding(word::specs::Value::int_of))]
 fn one_less(value: Signed) -> Option<Signed>
     ensures { value_of result ≡ one_less (int_of value) }
 {
-    value.checked_sub(Signed { lo: 1, hi: 0 })
+    value.checked_sub(Signed::ONE)
 }
 
 // The ends of a range.
 pub fn limited_to(range: Range) -> Limits
     ensures { limits_of result ≡ limited_to (bounds_of range) }
 {
-    let min = range.min;
-    let max = range.max;
     Limits {
-        lower: Some(min),
-        upper: Some(max),
+        lower: Some(range.min),
+        upper: Some(range.max),
     }
 }
 
@@ -79,19 +60,25 @@ pub fn limited_to(range: Range) -> Limits
 fn at_least(lower: Option<Signed>) -> Limits
     ensures { limits_of result ≡ limits (value_of lower) None }
 {
-    Limits {
-        lower: lower,
-        upper: None,
-    }
+    Limits { lower, upper: None }
 }
 
 // A largest value alone.
 fn at_most(upper: Option<Signed>) -> Limits
     ensures { limits_of result ≡ limits None (value_of upper) }
 {
-    Limits {
-        lower: None,
-        upper: upper,
+    Limits { lower: None, upper }
+}
+
+impl Pair {
+    // The limits of a comparison whose operands change places.
+    fn exchanged(self) -> Pair
+        ensures { pair_of result ≡ pair (limits_of self.right) (limits_of self.left) }
+    {
+        Pair {
+            left: self.right,
+            right: self.left,
+        }
     }
 }
 
@@ -104,34 +91,12 @@ fn less_limits(a: Range, b: Range) -> Pair
     }
 }
 
-fn not_less_limits(a: Range, b: Range) -> Pair
-    ensures { pair_of result ≡ not_less_limits (bounds_of a) (bounds_of b) }
-{
-    let low = b.min;
-    let high = a.max;
-    Pair {
-        left: at_least(Some(low)),
-        right: at_most(Some(high)),
-    }
-}
-
 fn less_equal_limits(a: Range, b: Range) -> Pair
     ensures { pair_of result ≡ less_equal_limits (bounds_of a) (bounds_of b) }
 {
-    let high = b.max;
-    let low = a.min;
     Pair {
-        left: at_most(Some(high)),
-        right: at_least(Some(low)),
-    }
-}
-
-fn greater_limits(a: Range, b: Range) -> Pair
-    ensures { pair_of result ≡ greater_limits (bounds_of a) (bounds_of b) }
-{
-    Pair {
-        left: at_least(one_more(b.min)),
-        right: at_most(one_less(a.max)),
+        left: at_most(Some(b.max)),
+        right: at_least(Some(a.min)),
     }
 }
 
@@ -148,24 +113,20 @@ fn equal_limits(a: Range, b: Range) -> Pair
 fn if_equal(a: Signed, b: Signed, limit: Option<Signed>) -> Option<Signed>
     ensures { value_of result ≡ provided (eq_z (int_of a) (int_of b)) (value_of limit) }
 {
-    if a.eq(b) { limit } else { None }
+    if a == b { limit } else { None }
 }
 
 // A value of a is not the one value of b: an end of a that is that value goes.
 fn besides(a: Range, b: Range) -> Limits
     ensures { limits_of result ≡ besides (bounds_of a) (bounds_of b) }
 {
-    let low = b.min;
-    if low.eq(b.max) {
+    if b.min == b.max {
         Limits {
             lower: if_equal(a.min, b.min, one_more(a.min)),
             upper: if_equal(a.max, b.max, one_less(a.max)),
         }
     } else {
-        Limits {
-            lower: None,
-            upper: None,
-        }
+        at_least(None)
     }
 }
 
@@ -182,10 +143,7 @@ fn apart_limits(a: Range, b: Range) -> Pair
 pub fn comparable(op: Binary, a: Range, b: Range) -> bool
     ensures { result ≡ comparable op (bounds_of a) (bounds_of b) }
 {
-    if !is_unsigned_order(op) {
-        return true;
-    }
-    unsigned_too(a, b)
+    !is_unsigned_order(op) || unsigned_too(a, b)
 }
 
 fn equality_limits(equal: bool, a: Range, b: Range) -> Pair
@@ -199,24 +157,16 @@ fn equality_limits(equal: bool, a: Range, b: Range) -> Pair
 }
 
 // The limits of two operands whose comparison is as expected.
+#[tactic(auto, unfolding(crate::specs::Limits::limits_by))]
 pub fn limits_by(op: Binary, expected: bool, a: Range, b: Range) -> Pair
     ensures { pair_of result ≡ limits_by op expected (bounds_of a) (bounds_of b) }
 {
-    if is_strict_order(op) {
-        if expected {
-            return less_limits(a, b);
-        }
-        return not_less_limits(a, b);
-    }
-    if same_binary(op, Binary::Equal) {
-        return equality_limits(expected, a, b);
-    }
-    if same_binary(op, Binary::NotEqual) {
-        return equality_limits(!expected, a, b);
-    }
-    if expected {
-        less_equal_limits(a, b)
-    } else {
-        greater_limits(a, b)
+    match op {
+        Binary::LessSigned | Binary::LessUnsigned if expected => less_limits(a, b),
+        Binary::LessSigned | Binary::LessUnsigned => less_equal_limits(b, a).exchanged(),
+        Binary::Equal => equality_limits(expected, a, b),
+        Binary::NotEqual => equality_limits(!expected, a, b),
+        _ if expected => less_equal_limits(a, b),
+        _ => less_limits(b, a).exchanged(),
     }
 }

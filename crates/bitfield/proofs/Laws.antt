@@ -68,9 +68,6 @@ module _ (g : List ℕ) (high low v i : ℕ) (b : Option ℕ) (keep literal k j 
   field_own n s w e t q =
       field_on g high low v i so_far k j more (source n s) (record { base = Some n; keep = w; literal = literal }) e (rw (t, q))
 
-  pub field_other : (n s : ℕ) → concat_bit g high low v i ≡ Some (source n s) → eqb s i && same_base b n ≡ false → field_from g high low v i k so_far ≡ None
-  field_other n s e t = field-stop g high low v i so_far k j more (source n s) e (rw t)
-
 -- ---- a bit that rules the fold out
 
 module _ (g : List ℕ) (high low v m : ℕ) (bad : misplaced (concat_bit g high low v m) m ≡ true) where
@@ -104,8 +101,8 @@ module _ (g : List ℕ) (high low v m : ℕ) (bad : misplaced (concat_bit g high
       by next None q = field-none g high low v i f n (d + suc k) more q
       by next (Some b) q = on next b q (with_bit f i b) refl
 
-pub ruled-out : (g : List ℕ) (high low v w : ℕ) → ruled_out g high low v w ≡ true → field_from g high low v 0 w no_bits ≡ None
-ruled-out g high low v w e = by (ltb v w) refl
+pub ruled_out_none : (g : List ℕ) (high low v w : ℕ) → ruled_out g high low v w ≡ true → field_from g high low v 0 w no_bits ≡ None
+ruled_out_none g high low v w e = by (ltb v w) refl
   where
     test : (t : Bool) → ltb v w ≡ t → cond t (misplaced (concat_bit g high low v v) v) false ≡ true
     test t q = sym (ap (λ (s : Bool). cond s (misplaced (concat_bit g high low v v) v) false) q) ∙ e

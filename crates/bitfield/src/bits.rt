@@ -1,20 +1,18 @@
 // One bit of a node, followed down to a constant or to the node that it comes from.
-ghost use Rattle.std.specs.Prelude.{true, false, cond, ◌≡◌, length, ◌<◌};
+ghost use Rattle.std.specs.Prelude.{◌≡◌, ◌<◌};
 ghost use Rattle.word.specs.Value.{val, number_of};
 ghost use Rattle.word.specs.Option.{given};
-ghost use Rattle.graph.specs.Layout.{REGION};
 ghost use Rattle.graph.specs.Node.{op_of};
-ghost use Rattle.bitfield.specs.Bitfield.{step_of, maybe_bit_of, has_bit, above, masked_bit, unary_bit, bit_of, bit_step, bit_at, negated_bit, here, from, flipped, known, source};
+ghost use Rattle.bitfield.specs.Bitfield.{step_of, maybe_bit_of, has_bit, above, masked_bit, unary_bit, bit_of, bit_step, bit_at, negated_bit, here, source};
 ghost use Rattle.bitfield.specs.Turns.{once_more, turned_by};
 
 use crate::{Bit, BitStep, Turns};
 use evaluate::{Binary, Unary};
-use fold::operator::same_binary;
+use graph::layout::Region;
 use graph::read::{literal, operation_at, type_at};
 use graph::{NodeId, Operation};
 use range::ScalarType;
 use word::Word;
-use graph::layout::Region;
 
 // The most steps.
 pub const DEPTH: u64 = 64;
@@ -23,7 +21,7 @@ fn has_bit(value: Word, index: u64) -> bool
     requires { index < 128 }
     ensures { result ≡ has_bit (val value) index }
 {
-    value.bit((index % 128) as u32) == 1
+    value.bit(index as u32) == 1
 }
 
 // Is the bit above the type's width?
@@ -31,9 +29,8 @@ pub fn is_above(ty: ScalarType, index: u64) -> bool
     ensures { result ≡ above ty index }
 {
     match ty {
-        ScalarType::Bool => false,
-        ScalarType::Bits(width) => width as u64 <= index,
-        ScalarType::Integer => false,
+        ScalarType::Bits(width) => u64::from(width) <= index,
+        _ => false,
     }
 }
 
@@ -43,69 +40,27 @@ fn own(id: NodeId, index: u64) -> BitStep
     BitStep::Here(Bit::Source(id, index))
 }
 
-fn xor_bit(set: bool, base: NodeId, index: u64) -> BitStep
-    ensures { step_of result ≡ cond set (flipped base.0 index) (from base.0 index) }
-{
-    if set {
-        BitStep::Flipped(base, index)
-    } else {
-        BitStep::From(base, index)
-    }
-}
-
-fn and_bit(set: bool, base: NodeId, index: u64) -> BitStep
-    ensures { step_of result ≡ cond set (from base.0 index) (here (known false)) }
-{
-    if set {
-        BitStep::From(base, index)
-    } else {
-        BitStep::Here(Bit::Known(false))
-    }
-}
-
-fn or_bit(set: bool, base: NodeId, index: u64) -> BitStep
-    ensures { step_of result ≡ cond set (here (known true)) (from base.0 index) }
-{
-    if set {
-        BitStep::Here(Bit::Known(true))
-    } else {
-        BitStep::From(base, index)
-    }
-}
-
 // A bit of an And, Or or Xor with a constant whose bit is set or not.
 fn masked_bit(op: Binary, id: NodeId, set: bool, base: NodeId, index: u64) -> BitStep
     ensures { step_of result ≡ masked_bit op id.0 set base.0 index }
 {
-    if same_binary(op, Binary::And) {
-        return and_bit(set, base, index);
+    match (op, set) {
+        (Binary::And, false) => BitStep::Here(Bit::Known(false)),
+        (Binary::Or, true) => BitStep::Here(Bit::Known(true)),
+        (Binary::Xor, true) => BitStep::Flipped(base, index),
+        (Binary::And | Binary::Or | Binary::Xor, _) => BitStep::From(base, index),
+        _ => own(id, index),
     }
-    if same_binary(op, Binary::Or) {
-        return or_bit(set, base, index);
-    }
-    if same_binary(op, Binary::Xor) {
-        return xor_bit(set, base, index);
-    }
-    own(id, index)
 }
 
+// Only a truncation hands a bit on.
 fn unary_bit(op: Unary, id: NodeId, value: NodeId, index: u64) -> BitStep
     ensures { step_of result ≡ unary_bit op id.0 value.0 index }
 {
     match op {
-        Unary::BoolNot => own(id, index),
-        Unary::BitNot => own(id, index),
-        Unary::Negate => own(id, index),
-        Unary::Truncate(width) => {
-            if index < width as u64 {
-                BitStep::From(value, index)
-            } else {
-                BitStep::Here(Bit::Known(false))
-            }
-        }
-        Unary::SignExtend(_) => own(id, index),
-        Unary::LeadingZeros(_) => own(id, index),
-        Unary::TrailingZeros(_) => own(id, index),
+        Unary::Truncate(width) if index < u64::from(width) => BitStep::From(value, index),
+        Unary::Truncate(_) => BitStep::Here(Bit::Known(false)),
+        _ => own(id, index),
     }
 }
 
@@ -126,44 +81,31 @@ fn operation_bit(g: &Region, id: NodeId, index: u64, operation: Operation) -> Bi
 {
     match operation {
         Operation::Constant(value) => BitStep::Here(Bit::Known(has_bit(value, index))),
-        Operation::Input(_) => own(id, index),
         Operation::Refine(value) => BitStep::From(value, index),
-        Operation::Effect(_) => own(id, index),
-        Operation::Slice {
-            value,
-            offset,
-            width,
-        } => {
-            if width as u64 <= index {
-                BitStep::Here(Bit::Known(false))
-            } else {
-                BitStep::From(value, offset as u64 + index)
-            }
+        Operation::Slice { width, .. } if u64::from(width) <= index => {
+            BitStep::Here(Bit::Known(false))
+        }
+        Operation::Slice { value, offset, .. } => BitStep::From(value, u64::from(offset) + index),
+        Operation::Concat { low, low_width, .. } if index < u64::from(low_width) => {
+            BitStep::From(low, index)
         }
         Operation::Concat {
             high,
-            low,
             low_width,
-        } => {
-            if index < low_width as u64 {
-                BitStep::From(low, index)
-            } else {
-                BitStep::From(high, index - low_width as u64)
-            }
-        }
+            ..
+        } => { BitStep::From(high, index - u64::from(low_width)) }
         Operation::Unary(op, value) => unary_bit(op, id, value, index),
         Operation::Binary(op, base, right) => binary_bit(op, id, literal(g, right), base, index),
+        _ => own(id, index),
     }
 }
 
 // Where a bit of a node comes from. Past bit 127 and past the node's width it is 0.
+#[tactic(auto, unfolding(crate::specs::Bitfield::bit_step))]
 fn bit_step(g: &Region, id: NodeId, index: u64) -> BitStep
     ensures { step_of result ≡ bit_step g.now id.0 index }
 {
-    if 128 <= index {
-        return BitStep::Here(Bit::Known(false));
-    }
-    if is_above(type_at(g, id), index) {
+    if 128 <= index || is_above(type_at(g, id), index) {
         return BitStep::Here(Bit::Known(false));
     }
     operation_bit(g, id, index, operation_at(g, id))
@@ -173,10 +115,7 @@ fn bit_step(g: &Region, id: NodeId, index: u64) -> BitStep
 fn negated_bit(bit: Option<Bit>) -> Option<Bit>
     ensures { maybe_bit_of result ≡ negated_bit (maybe_bit_of bit) }
 {
-    let Some(found) = bit else {
-        return None;
-    };
-    match found {
+    match bit? {
         Bit::Known(value) => Some(Bit::Known(!value)),
         Bit::Source(_, _) => None,
     }
@@ -187,9 +126,8 @@ fn once_more(turns: Turns) -> Turns
     ensures { result ≡ once_more turns }
 {
     match turns {
-        Turns::Never => Turns::Odd,
         Turns::Odd => Turns::Even,
-        Turns::Even => Turns::Odd,
+        _ => Turns::Odd,
     }
 }
 
@@ -208,23 +146,18 @@ fn turned_by(turns: Turns, bit: Option<Bit>) -> Option<Bit>
 pub fn bit(g: &Region, id: NodeId, index: u64, left: u64) -> Option<Bit>
     ensures { maybe_bit_of result ≡ bit_at g.now left id.0 index }
 {
-    let mut node = id.0;
+    let mut node = id;
     let mut place = index;
-    let mut steps = left;
     let mut turns = Turns::Never;
-    while 0 < steps {
-        let step = bit_step(g, NodeId(node), place);
-        steps -= 1;
-        match step {
-            BitStep::Here(found) => {
-                return turned_by(turns, Some(found));
-            }
+    for _ in 0..left {
+        match bit_step(g, node, place) {
+            BitStep::Here(found) => return turned_by(turns, Some(found)),
             BitStep::From(source, at) => {
-                node = source.0;
+                node = source;
                 place = at;
             }
             BitStep::Flipped(source, at) => {
-                node = source.0;
+                node = source;
                 place = at;
                 turns = once_more(turns);
             }

@@ -1,26 +1,25 @@
 // The bits of a concat, where each is known or one node's own at its place.
-ghost use Rattle.std.specs.Prelude.{cond, ◌&&◌, ◌≡◌, eqb, length};
+ghost use Rattle.std.specs.Prelude.{cond, ◌&&◌, ◌≡◌, eqb};
 ghost use Rattle.std.specs.Int.Bits.{bit_or};
 ghost use Rattle.word.specs.Value.{val};
-ghost use Rattle.graph.specs.Layout.{REGION};
 ghost use Rattle.fold.specs.Shape.{id_of};
 ghost use Rattle.bitfield.specs.Bitfield.{maybe_bit_of, maybe_field_of, power, same_base, concat_bit, low_fits, fold_bitfield_concat, no_bits, field_from};
 ghost use Rattle.bitfield.specs.Early.{misplaced, ruled_out};
 
 use crate::bits::{DEPTH, bit};
-use crate::{Bit, Field};
+use crate::{Bit, Concat, Field};
 use fold::shape::{fits, is_narrow};
 use graph::NodeId;
+use graph::layout::Region;
 use graph::read::{range_at, type_at};
 use word::Word;
-use graph::layout::Region;
 
 // The pattern in which one bit is set.
+#[tactic(auto, unfolding(word::specs::Value::val))]
 fn power(index: u16) -> Word
     ensures { val result ≡ power index }
 {
-    let one = Word { lo: 1, hi: 0 };
-    one.unbounded_shl(index as u32)
+    Word::ONE.unbounded_shl(u32::from(index))
 }
 
 // Is there no node yet, or this one?
@@ -38,7 +37,7 @@ fn with_known(literal: Word, index: u16, value: bool) -> Word
     ensures { val result ≡ cond value (bit_or (val literal) (power index)) (val literal) }
 {
     if value {
-        literal.bitor(power(index))
+        literal | power(index)
     } else {
         literal
     }
@@ -48,16 +47,16 @@ fn with_known(literal: Word, index: u16, value: bool) -> Word
 fn is_own(base: Option<NodeId>, index: u16, id: NodeId, source: u64) -> bool
     ensures { result ≡ (eqb source index && same_base (id_of base) id.0) }
 {
-    source == index as u64 && is_base(base, id)
+    source == u64::from(index) && is_base(base, id)
 }
 
-fn concat_bit(g: &Region, high: NodeId, low: NodeId, low_width: u16, index: u16) -> Option<Bit>
-    ensures { maybe_bit_of result ≡ concat_bit g.now high.0 low.0 low_width index }
+fn concat_bit(g: &Region, concat: Concat, index: u16) -> Option<Bit>
+    ensures { maybe_bit_of result ≡ concat_bit g.now concat.high.0 concat.low.0 concat.low_width index }
 {
-    if index < low_width {
-        bit(g, low, index as u64, DEPTH)
+    if index < concat.low_width {
+        bit(g, concat.low, u64::from(index), DEPTH)
     } else {
-        bit(g, high, (index - low_width) as u64, DEPTH)
+        bit(g, concat.high, u64::from(index - concat.low_width), DEPTH)
     }
 }
 
@@ -65,44 +64,31 @@ fn concat_bit(g: &Region, high: NodeId, low: NodeId, low_width: u16, index: u16)
 fn low_fits(g: &Region, low: NodeId, low_width: u16) -> bool
     ensures { result ≡ low_fits g.now low.0 low_width }
 {
-    if is_narrow(type_at(g, low), low_width) {
-        true
-    } else {
-        fits(range_at(g, low), low_width)
-    }
+    is_narrow(type_at(g, low), low_width) || fits(range_at(g, low), low_width)
 }
 
-fn all_bits(g: &Region, high: NodeId, low: NodeId, low_width: u16, width: u16) -> Option<Field>
-    ensures { maybe_field_of result ≡ field_from g.now high.0 low.0 low_width 0 width no_bits }
+fn all_bits(g: &Region, concat: Concat) -> Option<Field>
+    ensures { maybe_field_of result ≡ field_from g.now concat.high.0 concat.low.0 concat.low_width 0 concat.width no_bits }
 {
     let mut base = None;
-    let mut keep = Word { lo: 0, hi: 0 };
-    let mut literal = Word { lo: 0, hi: 0 };
-    let mut index = 0;
-    while index < width {
-        let bit = concat_bit(g, high, low, low_width, index);
-        let at = index;
-        index += 1;
-        let Some(found) = bit else {
-            return None;
-        };
-        match found {
-            Bit::Known(value) => {
-                literal = with_known(literal, at, value);
-            }
+    let mut keep = Word::ZERO;
+    let mut literal = Word::ZERO;
+    for index in 0..concat.width {
+        match concat_bit(g, concat, index)? {
+            Bit::Known(value) => literal = with_known(literal, index, value),
             Bit::Source(id, source) => {
-                if !is_own(base, at, id, source) {
+                if !is_own(base, index, id, source) {
                     return None;
                 }
                 base = Some(id);
-                keep = keep.bitor(power(at));
+                keep = keep | power(index);
             }
         }
     }
     Some(Field {
-        base: base,
-        keep: keep,
-        literal: literal,
+        base,
+        keep,
+        literal,
     })
 }
 
@@ -110,42 +96,28 @@ fn all_bits(g: &Region, high: NodeId, low: NodeId, low_width: u16, width: u16) -
 fn is_misplaced(bit: Option<Bit>, index: u16) -> bool
     ensures { result ≡ misplaced (maybe_bit_of bit) index }
 {
-    let Some(found) = bit else {
-        return true;
-    };
-    match found {
-        Bit::Known(_) => false,
-        Bit::Source(_, source) => source != index as u64,
+    match bit {
+        Some(Bit::Known(_)) => false,
+        Some(Bit::Source(_, source)) => source != u64::from(index),
+        None => true,
     }
 }
 
 // Does the high part's first bit rule the fold out? It often does, so it is tested before the others.
-fn is_ruled_out(g: &Region, high: NodeId, low: NodeId, low_width: u16, width: u16) -> bool
-    ensures { result ≡ ruled_out g.now high.0 low.0 low_width width }
+fn is_ruled_out(g: &Region, concat: Concat) -> bool
+    ensures { result ≡ ruled_out g.now concat.high.0 concat.low.0 concat.low_width concat.width }
 {
-    if low_width < width {
-        is_misplaced(concat_bit(g, high, low, low_width, low_width), low_width)
-    } else {
-        false
-    }
+    let first = concat.low_width;
+    first < concat.width && is_misplaced(concat_bit(g, concat, first), first)
 }
 
 // The bits of a concat, if all are known or one node's own.
-pub fn fold_bitfield_concat(
-    g: &Region,
-    high: NodeId,
-    low: NodeId,
-    low_width: u16,
-    width: u16,
-) -> Option<Field>
-    ensures { maybe_field_of result ≡ fold_bitfield_concat g.now high.0 low.0 low_width width }
+#[tactic(auto, unfolding(crate::specs::Bitfield::fold_bitfield_concat), using(crate::proofs::Laws::ruled_out_none))]
+pub fn fold_bitfield_concat(g: &Region, concat: Concat) -> Option<Field>
+    ensures { maybe_field_of result ≡ fold_bitfield_concat g.now concat.high.0 concat.low.0 concat.low_width concat.width }
 {
-    if low_fits(g, low, low_width) {
-        if is_ruled_out(g, high, low, low_width, width) {
-            None
-        } else {
-            all_bits(g, high, low, low_width, width)
-        }
+    if low_fits(g, concat.low, concat.low_width) && !is_ruled_out(g, concat) {
+        all_bits(g, concat)
     } else {
         None
     }

@@ -44,6 +44,15 @@ pub enum Turns {
     Even,
 }
 
+// A node of `width` bits, the low ones from one node and those from `low_width` on from another.
+#[derive(Clone, Copy)]
+pub struct Concat {
+    pub high: NodeId,
+    pub low: NodeId,
+    pub low_width: u16,
+    pub width: u16,
+}
+
 // The bits of a concat so far: the node that some come from, the mask of those, and the ones among the others.
 #[derive(Clone, Copy)]
 pub struct Field {

@@ -18,11 +18,12 @@ use Rattle.graph.specs.declared.Built.{Built}
 use Rattle.graph.specs.declared.Built.TheVariants as built
 use Rattle.graph.specs.declared.NodeId.{NodeId}
 use Rattle.build.specs.declared.step.MaskedNode.{MaskedNode}
-use Rattle.build.specs.Step.{masked_prog}
+use Rattle.build.specs.declared.step.Start.{Start}
+use Rattle.build.specs.Step.{start_first, entered, masked_prog}
 use Rattle.plan.specs.Plan.{is_stop}
 use Rattle.plan.specs.OneOperand.{modular_plan}
 use Rattle.plan.proofs.Laws.{is_stop_lem}
-use Rattle.build.specs.Build.{Call, modular, binary, range_prog, by_constant, Out, out, Prog, give, add, call, tries, tail, answer, constant_then, on_id, on_out, on_nothing, on_none, exec, run, build, step}
+use Rattle.build.specs.Build.{Call, first_prog, modular, binary, range_prog, by_constant, Out, out, Prog, give, add, call, tries, tail, answer, constant_then, on_id, on_out, on_nothing, on_none, exec, run, build, step}
 
 -- the units of an answer
 abbrev pub left : Out → ℕ
@@ -132,6 +133,19 @@ unfolding build run
 build_step c zero g e = absurd (e refl)
 build_step c (suc u) g e =
     rw (sub-one) (exec_same (run u) build u (run_falls u) (λ d v h m. run_same u v d v h m (le_refl v)) (step c g) u g (le_refl u))
+
+-- a builder is what is entered from its arguments
+pub entered_is : (c : Call) (s : Start) (u : ℕ) (g : List ℕ) → step c g ≡ first_prog (start_first s g) → entered s u g ≡ build c u g
+entered_is c s zero g e = sym (build-none c zero g refl)
+entered_is c s (suc u) g e = sym (build_step c (suc u) g (λ q. omega (arith, q)) ∙ rw (sub-one, e))
+
+-- one step of it
+pub entered_none : (s : Start) (u : ℕ) (g : List ℕ) → u ≡ 0 → entered s u g ≡ out units 0 g
+entered_none s u g e = rw e
+
+pub entered_step : (s : Start) (u : ℕ) (g : List ℕ) → (u ≡ 0 → ⊥) → entered s u g ≡ exec build (first_prog (start_first s g)) (u - 1) g
+entered_step s zero g e = absurd (e refl)
+entered_step s (suc u) g e = rw sub-one
 
 build_falls : (c : Call) (u : ℕ) (g : List ℕ) → left (build c u g) ≤ u
 unfolding build

@@ -1,8 +1,8 @@
 -- What a builder starts from, and what is left of its work once it has added what it can by itself.
-use Rattle.std.specs.Prelude.{◌≡◌, List, ℕ}
+use Rattle.std.specs.Prelude.{◌≡◌, List, ℕ, zero, suc}
 use Rattle.word.specs.Value.{val}
 use Rattle.evaluate.specs.declared.Binary.TheVariants as bi
-use Rattle.graph.specs.Insert.{built_of, resolve}
+use Rattle.graph.specs.Insert.{units, built_of, resolve}
 use Rattle.plan.specs.Plan as plan
 use Rattle.plan.specs.Plan.{First, does, rest_of}
 use Rattle.plan.specs.declared.Rest.{Rest}
@@ -10,7 +10,7 @@ use Rattle.plan.specs.OneOperand.{identity_plan, unary_first, modular_plan}
 use Rattle.plan_binary.specs.Binary.{binary_first}
 use Rattle.plan_slice.specs.Slice.{slice_first, concat_first}
 use Rattle.build.specs.Rest.{rest_plan}
-use Rattle.build.specs.Build.{Prog, give, call, tries, binary, by_constant, plan_prog, attempt_prog, first_prog, exec, build}
+use Rattle.build.specs.Build.{Out, out, Prog, give, call, tries, binary, by_constant, plan_prog, attempt_prog, first_prog, exec, build}
 use Rattle.build.specs.declared.step.Start.{Start}
 use Rattle.build.specs.declared.step.Start.TheVariants as start
 use Rattle.build.specs.declared.step.Next.{Next}
@@ -26,6 +26,11 @@ start_first (start.Binary t o l r) g = binary_first g t o (resolve g l.0) (resol
 start_first (start.Slice w v o) g = slice_first g (resolve g v.0) o w
 start_first (start.Concat v w h l) g = concat_first g (resolve g h.0) (resolve g l.0) v w
 start_first (start.Rest r) g = does (rest_plan g (rest_of r))
+
+-- a builder entered with u units: without one it is refused, else one is spent
+abbrev pub entered : Start → ℕ → List ℕ → Out
+entered s zero g = out units 0 g
+entered s (suc u) g = exec build (first_prog (start_first s g)) u g
 
 -- the rest of a builder, on the region as it then is
 abbrev pub rest_prog : Rest → List ℕ → Prog

@@ -5,24 +5,23 @@
 pub mod range_test;
 pub mod step;
 
-ghost use Rattle.std.specs.Prelude.{◌≡◌, length};
+ghost use Rattle.std.specs.Prelude.{◌≡◌};
 ghost use Rattle.word.specs.Value.{val};
-ghost use Rattle.graph.specs.Layout.{REGION};
 ghost use Rattle.graph.specs.Insert.{built_of, units};
 ghost use Rattle.plan.specs.Plan as plan;
 ghost use Rattle.build.specs.Build as call;
 ghost use Rattle.build.specs.Build.{out, build, exec, tries, by_constant, plan_prog, attempt_prog};
-ghost use Rattle.build.specs.Step.{rest_prog, masked_prog, next_prog};
+ghost use Rattle.build.specs.Step.{entered, rest_prog, masked_prog, next_prog};
 
 use crate::step::{MaskedNode, Next, Start, step};
 use evaluate::{Binary, Unary};
+use graph::layout::Region;
 use graph::leaf::constant;
 use graph::{Built, NodeId};
 use plan::Rest;
 use plan::one_operand::has_modular_plan;
 use range::ScalarType;
 use word::Word;
-use graph::layout::Region;
 
 // What a call may still use.
 #[derive(Clone, Copy)]
@@ -46,48 +45,43 @@ fn spent() -> Done
     }
 }
 
+// A builder spends a unit for its entry; without one it is refused.
+#[cycle(builders)]
+#[inline(always)]
+fn enter(g: &mut Region, budget: Budget, start: Start) -> Done
+    ensures { out (built_of result.built) result.budget.units g.new ≡ entered start budget.units g.old }
+{
+    if budget.units == 0 {
+        return spent();
+    }
+    let next = step(g, start);
+    let rest = Budget {
+        units: budget.units - 1,
+    };
+    perform(g, rest, next)
+}
+
 // The value at another type.
 #[cycle(builders)]
 pub fn identity(g: &mut Region, budget: Budget, ty: ScalarType, value: NodeId) -> Done
     ensures { out (built_of result.built) result.budget.units g.new ≡ build (call.identity ty value.0) budget.units g.old }
 {
-    if budget.units == 0 {
-        return spent();
-    }
-    let next = step(g, Start::Identity(ty, value));
-    let rest = Budget {
-        units: budget.units - 1,
-    };
-    perform(g, rest, next)
+    enter(g, budget, Start::Identity(ty, value))
 }
 
 #[cycle(builders)]
 pub fn unary(g: &mut Region, budget: Budget, ty: ScalarType, op: Unary, value: NodeId) -> Done
     ensures { out (built_of result.built) result.budget.units g.new ≡ build (call.unary ty op value.0) budget.units g.old }
 {
-    if budget.units == 0 {
-        return spent();
-    }
-    let next = step(g, Start::Unary(ty, value, op));
-    let rest = Budget {
-        units: budget.units - 1,
-    };
-    perform(g, rest, next)
+    enter(g, budget, Start::Unary(ty, value, op))
 }
 
 // A truncation pushed through arithmetic.
 #[cycle(builders)]
-pub fn modular(g: &mut Region, left: Budget, value: NodeId, width: u16) -> Done
-    ensures { out (built_of result.built) result.budget.units g.new ≡ build (call.modular value.0 width) left.units g.old }
+pub fn modular(g: &mut Region, budget: Budget, value: NodeId, width: u16) -> Done
+    ensures { out (built_of result.built) result.budget.units g.new ≡ build (call.modular value.0 width) budget.units g.old }
 {
-    if left.units == 0 {
-        return spent();
-    }
-    let next = step(g, Start::Modular(width, value));
-    let rest = Budget {
-        units: left.units - 1,
-    };
-    perform(g, rest, next)
+    enter(g, budget, Start::Modular(width, value))
 }
 
 #[cycle(builders)]
@@ -101,28 +95,14 @@ pub fn binary(
 ) -> Done
     ensures { out (built_of result.built) result.budget.units g.new ≡ build (call.binary ty op left.0 right.0) budget.units g.old }
 {
-    if budget.units == 0 {
-        return spent();
-    }
-    let next = step(g, Start::Binary(ty, op, left, right));
-    let rest = Budget {
-        units: budget.units - 1,
-    };
-    perform(g, rest, next)
+    enter(g, budget, Start::Binary(ty, op, left, right))
 }
 
 #[cycle(builders)]
 pub fn slice(g: &mut Region, budget: Budget, value: NodeId, offset: u64, width: u16) -> Done
     ensures { out (built_of result.built) result.budget.units g.new ≡ build (call.slice value.0 offset width) budget.units g.old }
 {
-    if budget.units == 0 {
-        return spent();
-    }
-    let next = step(g, Start::Slice(width, value, offset));
-    let rest = Budget {
-        units: budget.units - 1,
-    };
-    perform(g, rest, next)
+    enter(g, budget, Start::Slice(width, value, offset))
 }
 
 #[cycle(builders)]
@@ -136,14 +116,7 @@ pub fn concat(
 ) -> Done
     ensures { out (built_of result.built) result.budget.units g.new ≡ build (call.concat high.0 low.0 low_width width) budget.units g.old }
 {
-    if budget.units == 0 {
-        return spent();
-    }
-    let next = step(g, Start::Concat(low_width, width, high, low));
-    let rest = Budget {
-        units: budget.units - 1,
-    };
-    perform(g, rest, next)
+    enter(g, budget, Start::Concat(low_width, width, high, low))
 }
 
 // A truncation that is tried; after None the rest of the builder follows. Most often its plan is None: then modular, which would cost a unit and answer it, need not be called.
@@ -154,17 +127,17 @@ fn try_modular(g: &mut Region, budget: Budget, value: NodeId, width: u16, rest: 
     if budget.units == 0 {
         return spent();
     }
-    let mut left = Budget {
-        units: budget.units - 1,
-    };
-    if has_modular_plan(g, value, width) {
+    let left = if has_modular_plan(g, value, width) {
         let tried = modular(g, budget, value, width);
-        let built = tried.built;
-        let Built::None = built else {
+        let Built::None = tried.built else {
             return tried;
         };
-        left = tried.budget;
-    }
+        tried.budget
+    } else {
+        Budget {
+            units: budget.units - 1,
+        }
+    };
     go_on(g, left, rest)
 }
 
@@ -174,8 +147,7 @@ fn try_masked(g: &mut Region, budget: Budget, masked: MaskedNode, rest: Rest) ->
     ensures { out (built_of result.built) result.budget.units g.new ≡ exec build (tries (masked_prog masked) (rest_prog rest)) budget.units g.old }
 {
     let tried = masked_operation(g, budget, masked);
-    let built = tried.built;
-    let Built::None = built else {
+    let Built::None = tried.built else {
         return tried;
     };
     go_on(g, tried.budget, rest)
@@ -196,10 +168,7 @@ fn perform(g: &mut Region, budget: Budget, next: Next) -> Done
     ensures { out (built_of result.built) result.budget.units g.new ≡ exec build (next_prog next) budget.units g.old }
 {
     match next {
-        Next::Answer(built) => Done {
-            built: built,
-            budget: budget,
-        },
+        Next::Answer(built) => Done { built, budget },
         Next::Identity(value, ty) => identity(g, budget, ty, value),
         Next::Unary(value, ty, op) => unary(g, budget, ty, op, value),
         Next::Binary(left, right, ty, op) => binary(g, budget, ty, op, left, right),
@@ -231,14 +200,10 @@ pub(crate) fn constant_binary(
 ) -> Done
     ensures { out (built_of result.built) result.budget.units g.new ≡ exec build (by_constant kind (val value) ty op base.0) budget.units g.old }
 {
-    let built = constant(g, kind, value);
-    let Built::Id(right) = built else {
-        return Done {
-            built: built,
-            budget: budget,
-        };
-    };
-    binary(g, budget, ty, op, base, right)
+    match constant(g, kind, value) {
+        Built::Id(right) => binary(g, budget, ty, op, base, right),
+        built => Done { built, budget },
+    }
 }
 
 #[cycle(builders)]
@@ -253,8 +218,7 @@ fn slice_identity(
     ensures { out (built_of result.built) result.budget.units g.new ≡ exec build (plan_prog (plan.slice_identity base.0 offset width ty)) budget.units g.old }
 {
     let part = slice(g, budget, base, offset, width);
-    let built = part.built;
-    let Built::Id(value) = built else {
+    let Built::Id(value) = part.built else {
         return part;
     };
     identity(g, part.budget, ty, value)
@@ -272,12 +236,18 @@ fn slice_shift(
     ensures { out (built_of result.built) result.budget.units g.new ≡ exec build (plan_prog (plan.slice_shift base.0 width ty (val count))) budget.units g.old }
 {
     let part = slice(g, budget, base, 0, width);
-    let built = part.built;
-    let Built::Id(value) = built else {
+    let Built::Id(value) = part.built else {
         return part;
     };
-    let kind = ScalarType::Integer;
-    constant_binary(g, part.budget, kind, count, ty, Binary::ShiftLeft, value)
+    constant_binary(
+        g,
+        part.budget,
+        ScalarType::Integer,
+        count,
+        ty,
+        Binary::ShiftLeft,
+        value,
+    )
 }
 
 #[cycle(builders)]
@@ -292,8 +262,7 @@ fn and_or(
     ensures { out (built_of result.built) result.budget.units g.new ≡ exec build (plan_prog (plan.and_or ty base.0 mask.0 (val value))) budget.units g.old }
 {
     let masked = binary(g, budget, ty, Binary::And, base, mask);
-    let built = masked.built;
-    let Built::Id(kept) = built else {
+    let Built::Id(kept) = masked.built else {
         return masked;
     };
     constant_binary(g, masked.budget, ty, value, ty, Binary::Or, kept)
@@ -312,13 +281,11 @@ fn truncated(
 {
     let ty = ScalarType::Bits(width);
     let first = unary(g, budget, ty, Unary::Truncate(width), left);
-    let built = first.built;
-    let Built::Id(a) = built else {
+    let Built::Id(a) = first.built else {
         return first;
     };
     let second = unary(g, first.budget, ty, Unary::Truncate(width), right);
-    let other = second.built;
-    let Built::Id(b) = other else {
+    let Built::Id(b) = second.built else {
         return second;
     };
     binary(g, second.budget, ty, op, a, b)
@@ -338,13 +305,11 @@ fn split_concat(
     ensures { out (built_of result.built) result.budget.units g.new ≡ exec build (plan_prog (plan.split_concat low.0 offset low_width high.0 high_width width)) budget.units g.old }
 {
     let first = slice(g, budget, low, offset, low_width);
-    let built = first.built;
-    let Built::Id(lower) = built else {
+    let Built::Id(lower) = first.built else {
         return first;
     };
     let second = slice(g, first.budget, high, 0, high_width);
-    let other = second.built;
-    let Built::Id(upper) = other else {
+    let Built::Id(upper) = second.built else {
         return second;
     };
     concat(g, second.budget, upper, lower, low_width, width)
@@ -355,13 +320,16 @@ fn split_concat(
 fn masked_operation(g: &mut Region, budget: Budget, masked: MaskedNode) -> Done
     ensures { out (built_of result.built) result.budget.units g.new ≡ exec build (masked_prog masked) budget.units g.old }
 {
-    let ty = masked.ty;
-    let result = masked.result;
-    let op = masked.op;
-    let literal = masked.literal;
-    let kept = binary(g, budget, ty, Binary::And, masked.base, masked.mask);
-    let built = kept.built;
-    let Built::Id(value) = built else {
+    let MaskedNode {
+        base,
+        mask,
+        literal,
+        ty,
+        result,
+        op,
+    } = masked;
+    let kept = binary(g, budget, ty, Binary::And, base, mask);
+    let Built::Id(value) = kept.built else {
         return kept;
     };
     constant_binary(g, kept.budget, ty, literal, result, op, value)

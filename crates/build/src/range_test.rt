@@ -1,32 +1,24 @@
 // unsigned_range: low <= value <= high as one comparison. It costs no unit of its own.
-ghost use Rattle.std.specs.Prelude.{◌≡◌, length};
+ghost use Rattle.std.specs.Prelude.{◌≡◌};
 ghost use Rattle.word.specs.Value.{val};
-ghost use Rattle.graph.specs.Layout.{REGION};
 ghost use Rattle.graph.specs.Insert.{built_of};
 ghost use Rattle.build.specs.Build.{out, build, exec, is_testable, range_prog, unsigned_range};
 
 use crate::{Budget, Done, constant_binary};
 use evaluate::Binary;
+use graph::layout::Region;
 use graph::read::type_at;
 use graph::{Built, NodeId};
 use range::ScalarType;
 use range::typed::mask;
 use word::Word;
-use graph::layout::Region;
 
 // At most 64 bits, and a range of them that is not empty.
+#[tactic(auto, using(word::proofs::Compared::le_word))]
 fn is_testable(width: u16, low: Word, high: Word) -> bool
     ensures { result ≡ is_testable width (val low) (val high) }
 {
-    if width <= 64 {
-        if low.le(high) {
-            high.le(mask(width))
-        } else {
-            false
-        }
-    } else {
-        false
-    }
+    width <= 64 && low <= high && high <= mask(width)
 }
 
 // value - low <= high - low.
@@ -41,8 +33,7 @@ fn difference_test(
     ensures { out (built_of result.built) result.budget.units g.new ≡ exec build (range_prog ty value.0 (val low) (val high)) budget.units g.old }
 {
     let offset = constant_binary(g, budget, ty, low, ty, Binary::Sub, value);
-    let built = offset.built;
-    let Built::Id(difference) = built else {
+    let Built::Id(difference) = offset.built else {
         return offset;
     };
     let extent = high.wrapping_sub(low);
@@ -57,22 +48,17 @@ fn difference_test(
     )
 }
 
+#[tactic(auto, unfolding(crate::specs::Build::unsigned_range))]
 pub fn unsigned_range(g: &mut Region, budget: Budget, value: NodeId, low: Word, high: Word) -> Done
     ensures { out (built_of result.built) result.budget.units g.new ≡ unsigned_range value.0 (val low) (val high) budget.units g.old }
 {
-    let none = Done {
-        built: Built::None,
-        budget: budget,
-    };
-    let ty = type_at(g, value);
-    match ty {
-        ScalarType::Bool => none,
-        ScalarType::Bits(width) => {
-            if is_testable(width, low, high) {
-                return difference_test(g, budget, ScalarType::Bits(width), value, low, high);
-            }
-            none
+    match type_at(g, value) {
+        ScalarType::Bits(width) if is_testable(width, low, high) => {
+            difference_test(g, budget, ScalarType::Bits(width), value, low, high)
         }
-        ScalarType::Integer => none,
+        _ => Done {
+            built: Built::None,
+            budget,
+        },
     }
 }

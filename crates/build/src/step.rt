@@ -1,8 +1,7 @@
 // What a builder does by itself: it resolves, decides, and adds the nodes that come before a call of another builder.
 // The order of the fields is chosen by measurement: a value that is written in small parts and read as a whole makes the reader wait.
-ghost use Rattle.std.specs.Prelude.{◌≡◌, length};
+ghost use Rattle.std.specs.Prelude.{◌≡◌};
 ghost use Rattle.word.specs.Value.{val};
-ghost use Rattle.graph.specs.Layout.{REGION};
 ghost use Rattle.bitfield.specs.Bitfield.{mask_of};
 ghost use Rattle.plan.specs.Plan.{plan_of, first_of, rest_of, does, tries, constant_binary, masked};
 ghost use Rattle.build.specs.Rest.{rest_plan};
@@ -11,6 +10,7 @@ ghost use Rattle.build.specs.Step.{start_first, Leaves};
 use bitfield::Masked;
 use evaluate::{Binary, Unary};
 use graph::insert::insert;
+use graph::layout::Region;
 use graph::leaf::constant;
 use graph::read::resolve;
 use graph::{Built, NodeId};
@@ -20,7 +20,6 @@ use plan_binary::binary::{binary_first, binary_plan};
 use plan_slice::slice::{concat_first, concat_plan, slice_first, slice_plan};
 use range::ScalarType;
 use word::Word;
-use graph::layout::Region;
 
 // What a builder starts from: its arguments, or where it goes on after a fold that came to None.
 #[derive(Clone, Copy)]
@@ -64,6 +63,7 @@ pub(crate) enum Next {
 }
 
 // The plan of the rest.
+#[tactic(auto, unfolding(crate::specs::Rest::rest_plan))]
 fn rest_plan(g: &Region, rest: Rest) -> Plan
     ensures { plan_of result ≡ rest_plan g.now (rest_of rest) }
 {
@@ -105,11 +105,10 @@ fn after_constant(
 ) -> Next
     ensures { Leaves result g.new (does (constant_binary kind (val value) ty op base.0)) g.old }
 {
-    let built = constant(g, kind, value);
-    let Built::Id(right) = built else {
-        return Next::Answer(built);
-    };
-    Next::Binary(base, right, ty, op)
+    match constant(g, kind, value) {
+        Built::Id(right) => Next::Binary(base, right, ty, op),
+        built => Next::Answer(built),
+    }
 }
 
 // What is left of a plan.
@@ -144,36 +143,37 @@ fn begin(g: &mut Region, plan: Plan) -> Next
 fn begin_masked(g: &mut Region, fold: Masked, rest: Rest) -> Next
     ensures { Leaves result g.new (tries (masked (mask_of fold)) (rest_of rest)) g.old }
 {
-    let ty = fold.ty;
-    let result = fold.result;
-    let op = fold.op;
-    let base = fold.base;
-    let literal = fold.literal;
-    let built = constant(g, ty, fold.mask);
-    let Built::Id(mask) = built else {
-        return Next::Answer(built);
-    };
-    let node = MaskedNode {
-        base: base,
-        mask: mask,
-        literal: literal,
-        ty: ty,
-        result: result,
-        op: op,
-    };
-    Next::Masked(node, rest)
+    let Masked {
+        base,
+        mask,
+        literal,
+        ty,
+        result,
+        op,
+    } = fold;
+    match constant(g, ty, mask) {
+        Built::Id(mask) => {
+            let node = MaskedNode {
+                base,
+                mask,
+                literal,
+                ty,
+                result,
+                op,
+            };
+            Next::Masked(node, rest)
+        }
+        built => Next::Answer(built),
+    }
 }
 
 // What is left of a builder's work.
 pub(crate) fn step(g: &mut Region, start: Start) -> Next
     ensures { Leaves result g.new (start_first start g.old) g.old }
 {
-    let first = first_of(g, start);
-    match first {
+    match first_of(g, start) {
         First::Do(plan) => begin(g, plan),
-        First::Try(fold, rest) => match fold {
-            Attempt::Modular(value, width) => Next::Modular(value, width, rest),
-            Attempt::Masked(masked) => begin_masked(g, masked, rest),
-        },
+        First::Try(Attempt::Modular(value, width), rest) => Next::Modular(value, width, rest),
+        First::Try(Attempt::Masked(fold), rest) => begin_masked(g, fold, rest),
     }
 }

@@ -10,9 +10,8 @@ use native.Mathlib.Omega.{arith}
 use borrow.Author.Tests.{eq-eqb, ne_eqb}
 use lib.Dec.{eqb, lit<}
 use lib.ListN.{length, get_or, take, drop}
-use lib.Seq.{drop-cons, length-take-le}
-use Rattle.std.specs.List.{between}
-use Rattle.std.specs.Cmp.Lexicographic.{pointwise}
+use lib.Seq.{drop-cons}
+use Rattle.std.specs.List.{list_all, range_with_len}
 use Rattle.word.proofs.Integer.{lt-or-ge}
 use Rattle.graph.specs.Layout.{WORDS, X, KEY, node_start}
 use Rattle.graph.specs.Insert.{same_words, same_key, are_apart, lowest}
@@ -24,19 +23,20 @@ and_cond : (t u : Bool) → t && u ≡ cond t u false
 and_cond true u = refl
 and_cond false u = refl
 
-same_from : (g ws : List ℕ) (at : ℕ) → at + length ws ≤ length g → pointwise eqb (take (length ws) (drop at g)) ws ≡ same_words g at ws
-same_from g [] at h = refl
-same_from g (w ∷ ws) at h =
-    rw (drop-cons g at 0 (omega arith))
-    (ap (λ (t : Bool). eqb (get_or g at 0) w && t) (same_from g ws (suc at) (omega arith)) ∙ and_cond (eqb (get_or g at 0) w) (same_words g (suc at) ws))
+-- the words from j on, one by one
+same_from : (g ws : List ℕ) (at n j : ℕ) → j + n ≤ length ws
+    → list_all (λ k. eqb (get_or g (at + k) 0) (get_or ws k 0)) (range_with_len j n) ≡ same_words g (at + j) (take n (drop j ws))
+same_from g ws at zero j h = refl
+same_from g ws at (suc n) j h =
+    let a : at + (j + 1) ≡ suc (at + j) = omega arith in
+    let b : j + 1 ≡ suc j = omega arith in
+    rw (drop-cons ws j 0 (omega arith))
+    (ap (λ (t : Bool). eqb (get_or g (at + j) 0) (get_or ws j 0) && t) (same_from g ws at n (j + 1) (omega arith) ∙ (λ i. same_words g (a i) (take n (drop (b i) ws))))
+    ∙ and_cond (eqb (get_or g (at + j) 0) (get_or ws j 0)) (same_words g (suc (at + j)) (take n (drop (suc j) ws))))
 
--- `==` of n words of g from `at` on with the first n of ws
-pub same_is : (g ws : List ℕ) (at n : ℕ) → at + n ≤ length g → n ≤ length ws → pointwise eqb (between at (at + n) g) (between 0 n ws) ≡ same_words g at (take n ws)
-same_is g ws at n h k =
-    let e : at + n - at ≡ n = omega arith in
-    let l : length (take n ws) ≡ n = length-take-le n ws k in
-    let z : n - 0 ≡ n = omega arith in
-    rw (e, z) (subst (λ (m : ℕ). pointwise eqb (take m (drop at g)) (take n ws) ≡ same_words g at (take n ws)) l (same_from g (take n ws) at (omega (arith, l))))
+-- `all` over the n words of g from `at` on
+pub same_is : (g ws : List ℕ) (at n : ℕ) → n ≤ length ws → list_all (λ k. eqb (get_or g (at + k) 0) (get_or ws k 0)) (range_with_len 0 n) ≡ same_words g at (take n ws)
+same_is g ws at n h = same_from g ws at n 0 (omega arith) ∙ ap (λ (m : ℕ). same_words g m (take n ws)) (add-zero at)
 
 -- ---- the numbers from i to n
 

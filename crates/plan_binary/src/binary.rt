@@ -14,95 +14,68 @@ use crate::constant_right::{literal_plan, offset_plan, sum_plan};
 use crate::shift::shift_plan;
 use bitfield::equality::fold_masked_comparison;
 use evaluate::Binary;
-use evaluate::pattern::from_bool;
 use evaluate::two_operands::binary_value;
 use fold::compare::compared;
 use fold::new_range::binary_range;
 use fold::operator::{
     is_commutative, is_equality, is_false_twice, is_kept_twice, is_true_twice, is_zero_twice,
 };
-use fold::shape::is_some;
+use graph::layout::Region;
 use graph::read::{literal, range_at};
 use graph::{NodeId, Operation};
 use plan::one_operand::constant_or_none;
 use plan::{Attempt, First, Plan, Rest};
 use range::{Range, ScalarType};
 use word::Word;
-use graph::layout::Region;
 
 // Does a constant on the left go to the right?
 fn is_swapped(op: Binary, left: Option<Word>, right: Option<Word>) -> bool
     ensures { result ≡ is_swapped op (number_of left) (number_of right) }
 {
-    if is_some(left) && !is_some(right) {
-        return is_commutative(op);
-    }
-    false
+    left.is_some() && right.is_none() && is_commutative(op)
 }
 
 // Two constants are evaluated.
 fn evaluated(ty: ScalarType, op: Binary, left: Option<Word>, right: Option<Word>) -> Option<Plan>
     ensures { decided_of result ≡ evaluated ty op (number_of left) (number_of right) }
 {
-    let Some(a) = left else {
-        return None;
-    };
-    let Some(b) = right else {
-        return None;
-    };
-    Some(constant_or_none(ty, binary_value(op, ty, a, b)))
+    Some(constant_or_none(ty, binary_value(op, ty, left?, right?)))
+}
+
+fn truth(value: bool) -> Plan
+    ensures { plan_of result ≡ plan.constant type.Bool (from_bool value) }
+{
+    Plan::Constant(Word::from(value), ScalarType::Bool)
 }
 
 // A comparison that the ranges decide.
 fn compared_plan(op: Binary, left: Option<Range>, right: Option<Range>) -> Option<Plan>
     ensures { decided_of result ≡ compared_plan op (interval_of left) (interval_of right) }
 {
-    let known = compared(op, left, right);
-    match known {
-        Some(value) => truth(value),
-        None => None,
-    }
-}
-
-fn truth(value: bool) -> Option<Plan>
-    ensures { decided_of result ≡ Some (plan.constant type.Bool (from_bool value)) }
-{
-    Some(Plan::Constant(from_bool(value), ScalarType::Bool))
-}
-
-fn zero(ty: ScalarType) -> Option<Plan>
-    ensures { decided_of result ≡ Some (plan.constant ty 0) }
-{
-    Some(Plan::Constant(Word { lo: 0, hi: 0 }, ty))
+    Some(truth(compared(op, left, right)?))
 }
 
 // One node with itself.
-fn with_itself(ty: ScalarType, op: Binary, id: NodeId) -> Option<Plan>
-    ensures { decided_of result ≡ with_itself ty op id.0 }
-{
-    if is_kept_twice(op) {
-        return Some(Plan::Identity(id, ty));
-    }
-    if is_zero_twice(op) {
-        return zero(ty);
-    }
-    if is_true_twice(op) {
-        return truth(true);
-    }
-    if is_false_twice(op) {
-        return truth(false);
-    }
-    None
-}
-
-fn with_itself_plan(ty: ScalarType, op: Binary, left: NodeId, right: NodeId) -> Option<Plan>
+#[tactic(auto, unfolding(word::specs::Value::val))]
+fn with_itself(ty: ScalarType, op: Binary, left: NodeId, right: NodeId) -> Option<Plan>
     ensures { decided_of result ≡ provided (eqb left.0 right.0) (with_itself ty op left.0) }
 {
-    if left.0 == right.0 {
-        with_itself(ty, op, left)
-    } else {
-        None
+    if left.0 != right.0 {
+        return None;
     }
+    if is_kept_twice(op) {
+        return Some(Plan::Identity(left, ty));
+    }
+    if is_zero_twice(op) {
+        return Some(Plan::Constant(Word::ZERO, ty));
+    }
+    if is_true_twice(op) {
+        return Some(truth(true));
+    }
+    if is_false_twice(op) {
+        return Some(truth(false));
+    }
+    None
 }
 
 // The decisions before the range of the node is known.
@@ -110,19 +83,10 @@ fn decided_plan(g: &Region, ty: ScalarType, op: Binary, left: NodeId, right: Nod
     ensures { decided_of result ≡ decided_plan g.now ty op left.0 right.0 }
 {
     let known = literal(g, right);
-    let offset = offset_plan(g, ty, op, left, known);
-    let None = offset else {
-        return offset;
-    };
-    let ranges = compared_plan(op, range_at(g, left), range_at(g, right));
-    let None = ranges else {
-        return ranges;
-    };
-    let same = with_itself_plan(ty, op, left, right);
-    let None = same else {
-        return same;
-    };
-    literal_plan(g, ty, op, left, right, known)
+    offset_plan(g, ty, op, left, known)
+        .or_else(|| compared_plan(op, range_at(g, left), range_at(g, right)))
+        .or_else(|| with_itself(ty, op, left, right))
+        .or_else(|| literal_plan(g, ty, op, left, right, known))
 }
 
 // A node of this range, or None without one.
@@ -146,11 +110,11 @@ fn store_plan(
 }
 
 // binary after the masked comparison.
+#[tactic(auto, unfolding(crate::specs::Binary::binary_plan))]
 pub fn binary_plan(g: &Region, ty: ScalarType, op: Binary, left: NodeId, right: NodeId) -> Plan
     ensures { plan_of result ≡ binary_plan g.now ty op left.0 right.0 }
 {
-    let decided = decided_plan(g, ty, op, left, right);
-    if let Some(plan) = decided {
+    if let Some(plan) = decided_plan(g, ty, op, left, right) {
         return plan;
     }
     let derived = binary_range(ty, op, range_at(g, left), range_at(g, right));
@@ -165,12 +129,8 @@ fn equality_first(g: &Region, ty: ScalarType, op: Binary, left: NodeId, right: N
     if !is_equality(op) {
         return First::Do(binary_plan(g, ty, op, left, right));
     }
-    let comparison = fold_masked_comparison(g, op, left, right);
-    match comparison {
-        Some(masked) => First::Try(
-            Attempt::Masked(masked),
-            Rest::Binary(left, right, ty, op),
-        ),
+    match fold_masked_comparison(g, op, left, right) {
+        Some(masked) => First::Try(Attempt::Masked(masked), Rest::Binary(left, right, ty, op)),
         None => First::Do(binary_plan(g, ty, op, left, right)),
     }
 }
@@ -179,17 +139,16 @@ fn open_first(g: &Region, ty: ScalarType, op: Binary, left: NodeId, right: NodeI
     ensures { first_of result ≡ open_first g.now ty op left.0 right.0 }
 {
     let known = literal(g, right);
-    let constant = evaluated(ty, op, literal(g, left), known);
-    if let Some(plan) = constant {
-        return First::Do(plan);
+    let decided = evaluated(ty, op, literal(g, left), known).or_else(|| shift_plan(
+        g, ty, op, left, known,
+    ));
+    match decided {
+        Some(plan) => First::Do(plan),
+        None => equality_first(g, ty, op, left, right),
     }
-    let shifted = shift_plan(g, ty, op, left, known);
-    if let Some(plan) = shifted {
-        return First::Do(plan);
-    }
-    equality_first(g, ty, op, left, right)
 }
 
+#[tactic(auto, unfolding(crate::specs::Binary::binary_first))]
 pub fn binary_first(g: &Region, ty: ScalarType, op: Binary, left: NodeId, right: NodeId) -> First
     ensures { first_of result ≡ binary_first g.now ty op left.0 right.0 }
 {

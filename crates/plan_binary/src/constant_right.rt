@@ -11,27 +11,18 @@ ghost use Rattle.plan_binary.specs.Binary.{zero_plan, ones_plan, right_plan, mer
 
 use evaluate::Binary;
 use evaluate::two_operands::binary_value;
-use fold::operator::{is_bitwise, is_equality, is_kept_by_zero, is_zero_by_zero, same_binary};
-use fold::shape::by_constant_at;
 use fold::ByConstant;
+use fold::operator::{is_bitwise, is_equality, is_kept_by_zero, is_zero_by_zero};
+use fold::shape::by_constant_at;
 use graph::NodeId;
+use graph::layout::Region;
 use graph::read::type_at;
 use plan::Plan;
 use range::ScalarType;
 use range::typed::mask;
 use word::Word;
-use graph::layout::Region;
 
-// The first of two decisions.
-pub(crate) fn or_plan(first: Option<Plan>, second: Option<Plan>) -> Option<Plan>
-    ensures { decided_of result ≡ or_else (decided_of first) (decided_of second) }
-{
-    let None = first else {
-        return first;
-    };
-    second
-}
-
+#[tactic(auto, unfolding(word::specs::Value::val))]
 fn zero_plan(ty: ScalarType, op: Binary, left: NodeId) -> Option<Plan>
     ensures { decided_of result ≡ zero_plan ty op left.0 }
 {
@@ -39,59 +30,36 @@ fn zero_plan(ty: ScalarType, op: Binary, left: NodeId) -> Option<Plan>
         return Some(Plan::Identity(left, ty));
     }
     if is_zero_by_zero(op) {
-        return Some(Plan::Constant(Word { lo: 0, hi: 0 }, ty));
-    }
-    None
-}
-
-fn bool_ones(op: Binary, left: NodeId, right: NodeId, value: Word) -> Option<Plan>
-    ensures { decided_of result ≡ ones_plan type.Bool op left.0 right.0 (val value) }
-{
-    if !value.eq(Word { lo: 1, hi: 0 }) {
-        return None;
-    }
-    if same_binary(op, Binary::And) {
-        return Some(Plan::Give(left));
-    }
-    if same_binary(op, Binary::Or) {
-        return Some(Plan::Give(right));
-    }
-    None
-}
-
-fn bits_ones(width: u16, op: Binary, left: NodeId, right: NodeId, value: Word) -> Option<Plan>
-    ensures { decided_of result ≡ ones_plan (type.Bits width) op left.0 right.0 (val value) }
-{
-    let ty = ScalarType::Bits(width);
-    if !value.eq(mask(width)) {
-        return None;
-    }
-    if same_binary(op, Binary::And) {
-        return Some(Plan::Identity(left, ty));
-    }
-    if same_binary(op, Binary::Or) {
-        return Some(Plan::Constant(mask(width), ty));
+        return Some(Plan::Constant(Word::ZERO, ty));
     }
     None
 }
 
 // All ones of the type on the right: And keeps, Or gives them.
+#[tactic(auto, unfolding(word::specs::Value::val))]
 fn ones_plan(ty: ScalarType, op: Binary, left: NodeId, right: NodeId, value: Word) -> Option<Plan>
     ensures { decided_of result ≡ ones_plan ty op left.0 right.0 (val value) }
 {
-    match ty {
-        ScalarType::Bool => bool_ones(op, left, right, value),
-        ScalarType::Bits(width) => bits_ones(width, op, left, right, value),
-        ScalarType::Integer => None,
+    match (ty, op) {
+        (ScalarType::Bool, Binary::And) if value == Word::ONE => Some(Plan::Give(left)),
+        (ScalarType::Bool, Binary::Or) if value == Word::ONE => Some(Plan::Give(right)),
+        (ScalarType::Bits(width), Binary::And) if value == mask(width) => {
+            Some(Plan::Identity(left, ty))
+        }
+        (ScalarType::Bits(width), Binary::Or) if value == mask(width) => {
+            Some(Plan::Constant(value, ty))
+        }
+        _ => None,
     }
 }
 
+#[tactic(auto, using(graph::proofs::Tests::zero_test))]
 fn right_plan(ty: ScalarType, op: Binary, left: NodeId, right: NodeId, value: Word) -> Option<Plan>
     ensures { decided_of result ≡ right_plan ty op left.0 right.0 (val value) }
 {
     let ones = ones_plan(ty, op, left, right, value);
     if value.is_zero() {
-        return or_plan(zero_plan(ty, op, left), ones);
+        return zero_plan(ty, op, left).or(ones);
     }
     ones
 }
@@ -116,40 +84,14 @@ fn mask_of_mask(
 ) -> Option<Plan>
     ensures { decided_of result ≡ mask_of_mask ty op right.0 (val value) (one_by_constant_of shape) }
 {
-    let inner = shape.op;
-    let base = shape.base;
-    let first = shape.value;
-    if same_binary(inner, op) && is_bitwise(op) {
-        let both = binary_value(op, ty, first, value);
-        return Some(merged_plan(ty, op, base, both));
+    if shape.op == op && is_bitwise(op) {
+        let both = binary_value(op, ty, shape.value, value);
+        return Some(merged_plan(ty, op, shape.base, both));
     }
-    if same_binary(inner, Binary::Or) && same_binary(op, Binary::And) {
-        return Some(Plan::AndOr(base, right, first.bitand(value), ty));
+    if shape.op == Binary::Or && op == Binary::And {
+        return Some(Plan::AndOr(shape.base, right, shape.value & value, ty));
     }
     None
-}
-
-fn bits_masks(
-    g: &Region,
-    width: u16,
-    op: Binary,
-    left: NodeId,
-    right: NodeId,
-    value: Word,
-) -> Option<Plan>
-    ensures { decided_of result ≡ mask_plan g.now (type.Bits width) op left.0 right.0 (val value) }
-{
-    let inner = by_constant_at(g, left);
-    match inner {
-        Some(shape) => mask_of_mask(
-            ScalarType::Bits(width),
-            op,
-            right,
-            value,
-            shape,
-        ),
-        None => None,
-    }
 }
 
 fn mask_plan(
@@ -162,11 +104,10 @@ fn mask_plan(
 ) -> Option<Plan>
     ensures { decided_of result ≡ mask_plan g.now ty op left.0 right.0 (val value) }
 {
-    match ty {
-        ScalarType::Bool => None,
-        ScalarType::Bits(width) => bits_masks(g, width, op, left, right, value),
-        ScalarType::Integer => None,
-    }
+    let ScalarType::Bits(_) = ty else {
+        return None;
+    };
+    mask_of_mask(ty, op, right, value, by_constant_at(g, left)?)
 }
 
 // What a constant on the right decides before the range is known.
@@ -180,66 +121,30 @@ pub(crate) fn literal_plan(
 ) -> Option<Plan>
     ensures { decided_of result ≡ literal_plan g.now ty op left.0 right.0 (number_of known) }
 {
-    let Some(value) = known else {
-        return None;
-    };
-    let decided = right_plan(ty, op, left, right, value);
-    let None = decided else {
-        return decided;
-    };
-    mask_plan(g, ty, op, left, right, value)
+    let value = known?;
+    right_plan(ty, op, left, right, value).or_else(|| mask_plan(g, ty, op, left, right, value))
 }
 
 // The remainder by a power of two is an And.
 fn remainder_plan(ty: ScalarType, op: Binary, left: NodeId, value: Word) -> Option<Plan>
     ensures { decided_of result ≡ remainder_plan ty op left.0 (val value) }
 {
-    if same_binary(op, Binary::RemainderUnsigned) && value.is_power_of_two() {
-        let bits = value.wrapping_sub(Word { lo: 1, hi: 0 });
+    if op == Binary::RemainderUnsigned && value.is_power_of_two() {
+        let bits = value.wrapping_sub(Word::ONE);
         return Some(Plan::ConstantBinary(bits, left, ty, ty, Binary::And));
     }
     None
 }
 
-// Sub of Sub, if the sum of both constants is there.
-fn sub_of_sub(ty: ScalarType, base: NodeId, sum: Option<Word>) -> Option<Plan>
-    ensures { decided_of result ≡ sub_of_sub ty base.0 (number_of sum) }
-{
-    match sum {
-        Some(value) => {
-            Some(Plan::ConstantBinary(value, base, ty, ty, Binary::Sub))
-        }
-        None => None,
-    }
-}
-
-// Add of Add, and Sub of Sub, by the sum of their constants.
+// Add of Add, and Sub of Sub, by the sum of their constants. Without a sum Sub of Sub stays.
 fn sum_of_sum(ty: ScalarType, op: Binary, value: Word, shape: ByConstant) -> Option<Plan>
     ensures { decided_of result ≡ sum_of_sum ty op (val value) (one_by_constant_of shape) }
 {
-    let inner = shape.op;
-    let base = shape.base;
     let sum = binary_value(Binary::Add, ty, shape.value, value);
-    if same_binary(op, Binary::Add) && same_binary(inner, Binary::Add) {
-        return Some(merged_plan(ty, Binary::Add, base, sum));
-    }
-    if same_binary(op, Binary::Sub) && same_binary(inner, Binary::Sub) {
-        return sub_of_sub(ty, base, sum);
-    }
-    None
-}
-
-fn sum_of_constant(g: &Region, ty: ScalarType, op: Binary, left: NodeId, value: Word) -> Option<Plan>
-    ensures { decided_of result ≡ sum_plan g.now ty op left.0 (val value) }
-{
-    let remainder = remainder_plan(ty, op, left, value);
-    if let Some(plan) = remainder {
-        return Some(plan);
-    }
-    let inner = by_constant_at(g, left);
-    match inner {
-        Some(shape) => sum_of_sum(ty, op, value, shape),
-        None => None,
+    match (op, shape.op) {
+        (Binary::Add, Binary::Add) => Some(merged_plan(ty, op, shape.base, sum)),
+        (Binary::Sub, Binary::Sub) => Some(merged_plan(ty, op, shape.base, Some(sum?))),
+        _ => None,
     }
 }
 
@@ -253,23 +158,24 @@ pub(crate) fn sum_plan(
 ) -> Option<Plan>
     ensures { decided_of result ≡ given (number_of known) (sum_plan g.now ty op left.0) None }
 {
-    match known {
-        Some(value) => sum_of_constant(g, ty, op, left, value),
-        None => None,
-    }
+    let value = known?;
+    remainder_plan(ty, op, left, value).or_else(|| sum_of_sum(
+        ty,
+        op,
+        value,
+        by_constant_at(g, left)?,
+    ))
 }
 
 // The constant that the base of a sum is compared with.
 fn offset_target(op: Binary, target: Word, offset: Word) -> Option<Word>
     ensures { number_of result ≡ offset_target op (val target) (val offset) }
 {
-    if same_binary(op, Binary::Sub) {
-        return Some(target.wrapping_add(offset));
+    match op {
+        Binary::Sub => Some(target.wrapping_add(offset)),
+        Binary::Add => Some(target.wrapping_sub(offset)),
+        _ => None,
     }
-    if same_binary(op, Binary::Add) {
-        return Some(target.wrapping_sub(offset));
-    }
-    None
 }
 
 fn offset_compared(
@@ -281,45 +187,21 @@ fn offset_compared(
 ) -> Option<Plan>
     ensures { decided_of result ≡ offset_compared ty op width (val target) (one_by_constant_of shape) }
 {
-    let inner = shape.op;
-    let base = shape.base;
-    let other = offset_target(inner, target, shape.value);
-    let Some(value) = other else {
-        return None;
-    };
-    let constant = ScalarType::Bits(width);
-    Some(Plan::ConstantBinary(value, base, constant, ty, op))
+    let value = offset_target(shape.op, target, shape.value)?;
+    Some(Plan::ConstantBinary(value, shape.base, ScalarType::Bits(width), ty, op))
 }
 
-fn offset_bits(
-    g: &Region,
-    ty: ScalarType,
-    op: Binary,
-    left: NodeId,
-    target: Word,
-    width: u16,
-) -> Option<Plan>
-    ensures { decided_of result ≡ offset_typed g.now ty op left.0 (val target) (type.Bits width) }
-{
-    if !target.le(mask(width)) {
-        return None;
-    }
-    let inner = by_constant_at(g, left);
-    match inner {
-        Some(shape) => offset_compared(ty, op, width, target, shape),
-        None => None,
-    }
-}
-
+#[tactic(auto, using(word::proofs::Compared::lt_word))]
 fn offset_typed(g: &Region, ty: ScalarType, op: Binary, left: NodeId, target: Word) -> Option<Plan>
     ensures { decided_of result ≡ offset_typed g.now ty op left.0 (val target) (type_at g.now left.0) }
 {
-    let kind = type_at(g, left);
-    match kind {
-        ScalarType::Bool => None,
-        ScalarType::Bits(width) => offset_bits(g, ty, op, left, target, width),
-        ScalarType::Integer => None,
+    let ScalarType::Bits(width) = type_at(g, left) else {
+        return None;
+    };
+    if mask(width) < target {
+        return None;
     }
+    offset_compared(ty, op, width, target, by_constant_at(g, left)?)
 }
 
 // A comparison of a sum with a constant is one of its base.
@@ -335,8 +217,5 @@ pub(crate) fn offset_plan(
     if !is_equality(op) {
         return None;
     }
-    match known {
-        Some(target) => offset_typed(g, ty, op, left, target),
-        None => None,
-    }
+    offset_typed(g, ty, op, left, known?)
 }

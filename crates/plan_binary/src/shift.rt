@@ -8,40 +8,27 @@ ghost use Rattle.plan.specs.Plan.{plan_of, decided_of};
 ghost use Rattle.plan_binary.specs.Binary.{is_shifted_out, back_shift, shift_of_shift, shift_by, shift_plan};
 
 use evaluate::Binary;
-use fold::operator::{is_folded_shift, same_binary};
-use fold::shape::{by_constant_at, fits, is_narrow, origin, same_type};
 use fold::ByConstant;
+use fold::operator::is_folded_shift;
+use fold::shape::{by_constant_at, fits, is_narrow, origin};
 use graph::NodeId;
+use graph::layout::Region;
 use graph::read::{range_at, type_at};
 use plan::Plan;
 use range::ScalarType;
 use word::Word;
-use graph::layout::Region;
-
-// A width as a word.
-fn word_of(width: u16) -> Word
-    ensures { val result ≡ width }
-{
-    Word {
-        lo: width as u64,
-        hi: 0,
-    }
-}
 
 // Is the result 0? A shift right by the width is, if the operand has no bits from there on.
+#[tactic(auto, using(word::proofs::Compared::le_word))]
 fn is_shifted_out(op: Binary, width: u16, count: Word, narrow: bool) -> bool
     ensures { result ≡ is_shifted_out op width (val count) narrow }
 {
-    if word_of(128).le(count) {
-        return true;
-    }
-    if word_of(width).le(count) {
-        return same_binary(op, Binary::ShiftLeft) || narrow;
-    }
-    false
+    Word::from(128) <= count
+        || (Word::from(u64::from(width)) <= count && (op == Binary::ShiftLeft || narrow))
 }
 
 // Right after left: the bits that stay, or these shifted left by the rest. Both counts are below the width.
+#[tactic(auto, using(word::proofs::Compared::le_word), unfolding(word::specs::Value::val))]
 fn back_shift(width: u16, count: Word, shape: ByConstant) -> Plan
     requires { (val count < width) × (val shape.value < width) }
     ensures { plan_of result ≡ back_shift width (val count) (one_by_constant_of shape) }
@@ -49,70 +36,45 @@ fn back_shift(width: u16, count: Word, shape: ByConstant) -> Plan
     let base = shape.base;
     let first = shape.value;
     let ty = ScalarType::Bits(width);
-    if first.le(count) {
-        let offset = count.lo - first.lo;
-        return Plan::SliceIdentity(base, offset, width - (count.lo % 65536) as u16, ty);
+    if first <= count {
+        return Plan::SliceIdentity(base, count.lo - first.lo, width - count.lo as u16, ty);
     }
-    let rest = Word {
-        lo: first.lo - count.lo,
-        hi: 0,
-    };
-    Plan::SliceShift(base, rest, width - (first.lo % 65536) as u16, ty)
+    let rest = Word::from(first.lo - count.lo);
+    Plan::SliceShift(base, rest, width - first.lo as u16, ty)
 }
 
 // A shift of a shift left, both below the width.
+#[tactic(auto, using(word::proofs::Compared::le_word, crate::proofs::Laws::sum_below))]
 fn shift_of_shift(op: Binary, width: u16, count: Word, shape: ByConstant) -> Option<Plan>
     ensures { decided_of result ≡ shift_of_shift op width (val count) (one_by_constant_of shape) }
 {
-    let inner = shape.op;
-    let base = shape.base;
     let first = shape.value;
-    if !first.lt(word_of(width)) || !count.lt(word_of(width)) {
+    let end = Word::from(u64::from(width));
+    if end <= first || end <= count || shape.op != Binary::ShiftLeft {
         return None;
     }
-    if !same_binary(inner, Binary::ShiftLeft) {
-        return None;
-    }
-    if same_binary(op, Binary::ShiftRight) {
+    if op == Binary::ShiftRight {
         return Some(back_shift(width, count, shape));
     }
-    let sum = Word {
-        lo: first.lo + count.lo,
-        hi: 0,
-    };
+    let sum = first.wrapping_add(count);
     let ty = ScalarType::Bits(width);
-    Some(Plan::ConstantBinary(sum, base, ScalarType::Integer, ty, op))
+    Some(Plan::ConstantBinary(sum, shape.base, ScalarType::Integer, ty, op))
 }
 
+#[tactic(auto, unfolding(word::specs::Value::val))]
 fn shift_by(g: &Region, op: Binary, width: u16, left: NodeId, count: Word) -> Option<Plan>
     ensures { decided_of result ≡ shift_by g.now op width left.0 (val count) }
 {
     let ty = ScalarType::Bits(width);
     let narrow = is_narrow(type_at(g, left), width) || fits(range_at(g, left), width);
     if is_shifted_out(op, width, count, narrow) {
-        return Some(Plan::Constant(Word { lo: 0, hi: 0 }, ty));
+        return Some(Plan::Constant(Word::ZERO, ty));
     }
     let source = origin(g, left);
-    if !same_type(type_at(g, source), ty) {
+    if type_at(g, source) != ty {
         return None;
     }
-    let inner = by_constant_at(g, source);
-    match inner {
-        Some(shape) => shift_of_shift(op, width, count, shape),
-        None => None,
-    }
-}
-
-fn bits_shift(g: &Region, width: u16, op: Binary, left: NodeId, right: Option<Word>) -> Option<Plan>
-    ensures { decided_of result ≡ shift_plan g.now (ty.Bits width) op left.0 (number_of right) }
-{
-    if !is_folded_shift(op) {
-        return None;
-    }
-    match right {
-        Some(count) => shift_by(g, op, width, left, count),
-        None => None,
-    }
+    shift_of_shift(op, width, count, by_constant_at(g, source)?)
 }
 
 // What a shift in Bits by a constant comes to.
@@ -125,9 +87,11 @@ pub(crate) fn shift_plan(
 ) -> Option<Plan>
     ensures { decided_of result ≡ shift_plan g.now ty op left.0 (number_of right) }
 {
-    match ty {
-        ScalarType::Bool => None,
-        ScalarType::Bits(width) => bits_shift(g, width, op, left, right),
-        ScalarType::Integer => None,
+    let ScalarType::Bits(width) = ty else {
+        return None;
+    };
+    if !is_folded_shift(op) {
+        return None;
     }
+    shift_by(g, op, width, left, right?)
 }

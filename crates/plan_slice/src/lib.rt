@@ -11,4 +11,3 @@ pub struct Cut {
     pub value: NodeId,
     pub offset: u16,
 }
-

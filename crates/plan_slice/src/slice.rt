@@ -11,45 +11,43 @@ ghost use Rattle.plan_slice.specs.Slice.{lowered, bounded_plan, new_slice, slice
 use crate::Cut;
 use bitfield::bits::is_above;
 use bitfield::fields::fold_bitfield_concat;
-use bitfield::{Field, Masked};
+use bitfield::{Concat, Field, Masked};
 use evaluate::Binary;
-use fold::shape::same_type;
+use graph::layout::Region;
 use graph::read::{literal, operation_at, range_at, type_at};
 use graph::{NodeId, Operation};
 use plan::{Attempt, First, Plan, Rest};
 use range::typed::type_range;
 use range::{Range, ScalarType};
 use word::Word;
-use graph::layout::Region;
 
 // The value from the offset up, 0 from offset 128 on.
+#[tactic(auto, unfolding(word::specs::Value::val))]
 fn lowered(value: Word, offset: u64) -> Word
     ensures { val result ≡ lowered (val value) offset }
 {
     if offset < 128 {
-        value.unbounded_shr((offset % 128) as u32)
+        value.unbounded_shr(offset as u32)
     } else {
-        Word { lo: 0, hi: 0 }
+        Word::ZERO
     }
 }
 
 // A range that is not negative may say that the bits are 0, or at offset 0 that the value fits.
+#[tactic(auto, using(graph::proofs::Tests::zero_test), unfolding(word::specs::Value::val))]
 fn bounded_plan(range: Option<Range>, value: NodeId, offset: u64, width: u16) -> Option<Plan>
     ensures { decided_of result ≡ bounded_plan (interval_of range) value.0 offset width }
 {
-    let Some(bounds) = range else {
-        return None;
-    };
+    let bounds = range?;
     if !bounds.is_nonnegative() {
         return None;
     }
-    let max = bounds.max;
-    let upper = lowered(max.as_word(), offset);
-    if upper.is_zero() {
-        return Some(Plan::Constant(Word { lo: 0, hi: 0 }, ScalarType::Bits(width)));
+    let ty = ScalarType::Bits(width);
+    if lowered(bounds.max.as_word(), offset).is_zero() {
+        return Some(Plan::Constant(Word::ZERO, ty));
     }
     if offset == 0 && bounds.is_in_bits(width) {
-        return Some(Plan::Identity(value, ScalarType::Bits(width)));
+        return Some(Plan::Identity(value, ty));
     }
     None
 }
@@ -60,9 +58,9 @@ fn new_slice(value: NodeId, offset: u64, width: u16) -> Plan
 {
     let ty = ScalarType::Bits(width);
     let operation = Operation::Slice {
-        value: value,
-        offset: (offset % 128) as u16,
-        width: width,
+        value,
+        offset: offset as u16,
+        width,
     };
     Plan::Add(type_range(ty), operation, ty)
 }
@@ -72,13 +70,14 @@ fn slice_concat(high: NodeId, low: NodeId, low_width: u16, offset: u64, width: u
     requires { offset < 128 }
     ensures { plan_of result ≡ slice_concat high.0 low.0 low_width offset width }
 {
-    if low_width as u64 <= offset {
-        return Plan::Slice(high, offset - low_width as u64, width);
+    let seam = u64::from(low_width);
+    if seam <= offset {
+        return Plan::Slice(high, offset - seam, width);
     }
-    if offset + width as u64 <= low_width as u64 {
+    if offset + u64::from(width) <= seam {
         return Plan::Slice(low, offset, width);
     }
-    let lower_width = low_width - (offset % 128) as u16;
+    let lower_width = low_width - offset as u16;
     Plan::SplitConcat(low, high, offset, lower_width, width - lower_width, width)
 }
 
@@ -87,53 +86,45 @@ fn slice_operation(operation: Operation, value: NodeId, offset: u64, width: u16)
     ensures { plan_of result ≡ slice_operation (op_of operation) value.0 offset width }
 {
     match operation {
-        Operation::Constant(_) => new_slice(value, offset, width),
-        Operation::Input(_) => new_slice(value, offset, width),
-        Operation::Refine(_) => new_slice(value, offset, width),
-        Operation::Effect(_) => new_slice(value, offset, width),
         Operation::Slice {
             value: source,
             offset: base,
             width: source_width,
-        } => {
-            if offset + width as u64 <= source_width as u64 {
-                return Plan::Slice(source, base as u64 + offset, width);
-            }
-            new_slice(value, offset, width)
+        } if offset + u64::from(width) <= u64::from(source_width) => {
+            Plan::Slice(source, u64::from(base) + offset, width)
         }
         Operation::Concat {
             high,
             low,
             low_width,
         } => slice_concat(high, low, low_width, offset, width),
-        Operation::Unary(_, _) => new_slice(value, offset, width),
-        Operation::Binary(_, _, _) => new_slice(value, offset, width),
+        _ => new_slice(value, offset, width),
     }
 }
 
 // A slice that its range does not decide.
+#[tactic(auto, unfolding(word::specs::Value::val))]
 fn slice_part(g: &Region, value: NodeId, offset: u64, width: u16) -> Plan
     ensures { plan_of result ≡ slice_part g.now value.0 offset width }
 {
     let ty = type_at(g, value);
     if 128 <= offset || is_above(ty, offset) {
-        return Plan::Constant(Word { lo: 0, hi: 0 }, ScalarType::Bits(width));
+        return Plan::Constant(Word::ZERO, ScalarType::Bits(width));
     }
-    if offset == 0 && same_type(ty, ScalarType::Bits(width)) {
+    if offset == 0 && ty == ScalarType::Bits(width) {
         return Plan::Give(value);
     }
     slice_operation(operation_at(g, value), value, offset, width)
 }
 
 // slice after modular.
+#[tactic(auto, unfolding(crate::specs::Slice::slice_plan))]
 pub fn slice_plan(g: &Region, value: NodeId, offset: u64, width: u16) -> Plan
     ensures { plan_of result ≡ slice_plan g.now value.0 offset width }
 {
-    let bounded = bounded_plan(range_at(g, value), value, offset, width);
-    match bounded {
-        Some(plan) => plan,
-        None => slice_part(g, value, offset, width),
-    }
+    bounded_plan(range_at(g, value), value, offset, width).unwrap_or_else(|| slice_part(
+        g, value, offset, width,
+    ))
 }
 
 fn slice_open(g: &Region, value: NodeId, offset: u64, width: u16) -> First
@@ -148,11 +139,11 @@ fn slice_open(g: &Region, value: NodeId, offset: u64, width: u16) -> First
     First::Do(slice_plan(g, value, offset, width))
 }
 
+#[tactic(auto, unfolding(crate::specs::Slice::slice_first))]
 pub fn slice_first(g: &Region, value: NodeId, offset: u64, width: u16) -> First
     ensures { first_of result ≡ slice_first g.now value.0 offset width }
 {
-    let known = literal(g, value);
-    match known {
+    match literal(g, value) {
         Some(constant) => First::Do(Plan::Constant(
             lowered(constant, offset),
             ScalarType::Bits(width),
@@ -162,118 +153,79 @@ pub fn slice_first(g: &Region, value: NodeId, offset: u64, width: u16) -> First
 }
 
 // concat after the bitfield fold: a node.
-pub fn concat_plan(high: NodeId, low: NodeId, low_width: u16, width: u16) -> Plan
-    ensures { plan_of result ≡ concat_plan high.0 low.0 low_width width }
+#[tactic(auto, unfolding(crate::specs::Slice::concat_plan))]
+pub fn concat_plan(concat: Concat) -> Plan
+    ensures { plan_of result ≡ concat_plan concat.high.0 concat.low.0 concat.low_width concat.width }
 {
-    let ty = ScalarType::Bits(width);
+    let ty = ScalarType::Bits(concat.width);
     let operation = Operation::Concat {
-        high: high,
-        low: low,
-        low_width: low_width,
+        high: concat.high,
+        low: concat.low,
+        low_width: concat.low_width,
     };
     Plan::Add(type_range(ty), operation, ty)
 }
 
 // The constants of both parts side by side.
+#[tactic(auto, unfolding(word::specs::Value::val))]
 fn joined(high: Word, low: Word, low_width: u16) -> Word
     ensures { val result ≡ joined (val high) (val low) low_width }
 {
-    let raised = if low_width < 128 {
-        high.unbounded_shl(low_width as u32)
-    } else {
-        Word { lo: 0, hi: 0 }
-    };
-    raised.bitor(low)
+    high.checked_shl(u32::from(low_width)).unwrap_or(Word::ZERO) | low
 }
 
 fn joined_plan(high: Option<Word>, low: Option<Word>, low_width: u16, width: u16) -> Option<Plan>
     ensures { decided_of result ≡ joined_plan (number_of high) (number_of low) low_width width }
 {
-    let Some(a) = high else {
-        return None;
-    };
-    let Some(b) = low else {
-        return None;
-    };
-    let ty = ScalarType::Bits(width);
-    Some(Plan::Constant(joined(a, b, low_width), ty))
+    Some(Plan::Constant(joined(high?, low?, low_width), ScalarType::Bits(width)))
 }
 
 fn cut_of(operation: Operation) -> Option<Cut>
     ensures { maybe_cut_of result ≡ cut_of (op_of operation) }
 {
-    match operation {
-        Operation::Constant(_) => None,
-        Operation::Input(_) => None,
-        Operation::Refine(_) => None,
-        Operation::Effect(_) => None,
-        Operation::Slice {
-            value,
-            offset,
-            width: _,
-        } => Some(Cut {
-            value: value,
-            offset: offset,
-        }),
-        Operation::Concat {
-            high: _,
-            low: _,
-            low_width: _,
-        } => None,
-        Operation::Unary(_, _) => None,
-        Operation::Binary(_, _, _) => None,
-    }
+    let Operation::Slice { value, offset, .. } = operation else {
+        return None;
+    };
+    Some(Cut { value, offset })
 }
 
 // Two slices side by side of one node are one slice.
 fn adjacent(high: Operation, low: Operation, low_width: u16, width: u16) -> Option<Plan>
     ensures { decided_of result ≡ adjacent (cut_of (op_of high)) (cut_of (op_of low)) low_width width }
 {
-    let first = cut_of(high);
-    let second = cut_of(low);
-    let Some(a) = first else {
-        return None;
-    };
-    let Some(b) = second else {
-        return None;
-    };
-    let upper = a.value;
-    let lower = b.value;
-    let seam = b.offset as u64 + low_width as u64;
-    if upper.0 == lower.0 && a.offset as u64 == seam {
-        return Some(Plan::Slice(upper, b.offset as u64, width));
+    let upper = cut_of(high)?;
+    let lower = cut_of(low)?;
+    let offset = u64::from(lower.offset);
+    if upper.value.0 == lower.value.0 && u64::from(upper.offset) == offset + u64::from(low_width) {
+        return Some(Plan::Slice(upper.value, offset, width));
     }
     None
 }
 
 // A concat of one node's own bits and of constants: And keeps those, Or sets the others.
-fn field_plan(
-    g: &Region,
-    high: NodeId,
-    low: NodeId,
-    low_width: u16,
-    width: u16,
-    field: Field,
-) -> First
-    ensures { first_of result ≡ field_plan g.now high.0 low.0 low_width width (field_of field) }
+fn field_plan(g: &Region, concat: Concat, field: Field) -> First
+    ensures { first_of result ≡ field_plan g.now concat.high.0 concat.low.0 concat.low_width concat.width (field_of field) }
 {
+    let Concat {
+        high,
+        low,
+        low_width,
+        width,
+    } = concat;
     let ty = ScalarType::Bits(width);
-    let found = field.base;
-    let keep = field.keep;
-    let literal = field.literal;
-    let Some(base) = found else {
-        return First::Do(Plan::Constant(literal, ty));
+    let Some(base) = field.base else {
+        return First::Do(Plan::Constant(field.literal, ty));
     };
-    if !same_type(type_at(g, base), ty) {
-        return First::Do(concat_plan(high, low, low_width, width));
+    if type_at(g, base) != ty {
+        return First::Do(concat_plan(concat));
     }
     let masked = Masked {
-        ty: ty,
-        base: base,
-        mask: keep,
+        ty,
+        base,
+        mask: field.keep,
         result: ty,
         op: Binary::Or,
-        literal: literal,
+        literal: field.literal,
     };
     First::Try(
         Attempt::Masked(masked),
@@ -281,40 +233,44 @@ fn field_plan(
     )
 }
 
-fn concat_field(g: &Region, high: NodeId, low: NodeId, low_width: u16, width: u16) -> First
-    ensures { first_of result ≡ concat_field g.now high.0 low.0 low_width width }
+fn concat_field(g: &Region, concat: Concat) -> First
+    ensures { first_of result ≡ concat_field g.now concat.high.0 concat.low.0 concat.low_width concat.width }
 {
-    let bits = fold_bitfield_concat(g, high, low, low_width, width);
-    match bits {
-        Some(field) => field_plan(g, high, low, low_width, width, field),
-        None => First::Do(concat_plan(high, low, low_width, width)),
+    match fold_bitfield_concat(g, concat) {
+        Some(field) => field_plan(g, concat, field),
+        None => First::Do(concat_plan(concat)),
     }
 }
 
-fn concat_open(g: &Region, high: NodeId, low: NodeId, low_width: u16, width: u16) -> First
-    ensures { first_of result ≡ concat_open g.now high.0 low.0 low_width width }
+fn concat_open(g: &Region, concat: Concat) -> First
+    ensures { first_of result ≡ concat_open g.now concat.high.0 concat.low.0 concat.low_width concat.width }
 {
-    let first = operation_at(g, high);
-    let second = operation_at(g, low);
-    let one = adjacent(first, second, low_width, width);
-    match one {
+    let high = operation_at(g, concat.high);
+    let low = operation_at(g, concat.low);
+    match adjacent(high, low, concat.low_width, concat.width) {
         Some(plan) => First::Do(plan),
-        None => concat_field(g, high, low, low_width, width),
+        None => concat_field(g, concat),
     }
 }
 
-pub fn concat_first(g: &Region, high: NodeId, low: NodeId, low_width: u16, width: u16) -> First
-    ensures { first_of result ≡ concat_first g.now high.0 low.0 low_width width }
+#[tactic(auto, unfolding(crate::specs::Slice::concat_first))]
+pub fn concat_first(g: &Region, concat: Concat) -> First
+    ensures { first_of result ≡ concat_first g.now concat.high.0 concat.low.0 concat.low_width concat.width }
 {
+    let Concat {
+        high,
+        low,
+        low_width,
+        width,
+    } = concat;
     if width == low_width {
         return First::Do(Plan::Slice(low, 0, width));
     }
     if low_width == 0 {
         return First::Do(Plan::Slice(high, 0, width));
     }
-    let constant = joined_plan(literal(g, high), literal(g, low), low_width, width);
-    match constant {
+    match joined_plan(literal(g, high), literal(g, low), low_width, width) {
         Some(plan) => First::Do(plan),
-        None => concat_open(g, high, low, low_width, width),
+        None => concat_open(g, concat),
     }
 }

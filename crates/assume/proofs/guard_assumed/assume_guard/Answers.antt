@@ -1,10 +1,9 @@
-use Rattle.assume.specs.Assume.{assumed_guard}
+-- `assume_guard` meets its contract: both sides are refined. Assumes nothing.
+use Rattle.assume.proofs.Both.{assumed_sides}
 use Rattle.assume.proofs.guard_assumed.assume_guard.Goals as goal
 
-pub returns-in-Some : goal.returns-in-Some
-unfolding assumed_guard
-returns-in-Some c = rw (← c.behind_nots-behind.ensures, ← c.comparison_at-found.ensures, c.in-Some.is) c.assume_comparison.ensures
+pub returns-in_default : goal.returns-in_default
+returns-in_default c = rw (assumed_sides, ← c.sides.ensures, c.in_default.is)
 
-pub returns-in-None : goal.returns-in-None
-unfolding assumed_guard
-returns-in-None c = rw (← c.behind_nots-behind.ensures, ← c.comparison_at-found.ensures, c.in-None.is)
+pub returns : goal.returns
+returns c = rw (assumed_sides, ← c.sides.ensures, c.in-Some.is) c.refine_both.ensures

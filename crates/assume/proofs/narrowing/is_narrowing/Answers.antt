@@ -1,11 +1,15 @@
--- `is_narrowing` meets its contract. Assumes nothing.
-use Rattle.assume.specs.Narrowing.{is_narrowing}
+-- `is_narrowing` meets its contract: each side is asked. Assumes nothing.
+use Rattle.assume.specs.Narrowing.{narrows_either}
+use Rattle.assume.proofs.Both.{narrowing_sides}
 use Rattle.assume.proofs.narrowing.is_narrowing.Goals as goal
 
-pub returns-in-Some : goal.returns-in-Some
-unfolding is_narrowing
-returns-in-Some c = simp (← c.behind_nots-behind.ensures, ← c.comparison_at-found.ensures, c.in-Some.is, ← c.narrows_comparison.ensures)
+pub returns-in_default : goal.returns-in_default
+returns-in_default c = rw (narrowing_sides, ← c.sides.ensures, c.in_default.is)
 
-pub returns-in-None : goal.returns-in-None
-unfolding is_narrowing
-returns-in-None c = simp (← c.behind_nots-behind.ensures, ← c.comparison_at-found.ensures, c.in-None.is)
+pub returns-then-narrows_at : goal.returns-then-narrows_at
+unfolding narrows_either
+returns-then-narrows_at c = simp (narrowing_sides, ← c.sides.ensures, c.in-Some.is, ← c.narrows_at.ensures, c.if-narrows_at.true)
+
+pub returns-else-narrows_at : goal.returns-else-narrows_at
+unfolding narrows_either
+returns-else-narrows_at c = simp (narrowing_sides, ← c.sides.ensures, c.in-Some.is, ← c.narrows_at.ensures, c.if-narrows_at.false, ← c.narrows_at-else-narrows_at.ensures)

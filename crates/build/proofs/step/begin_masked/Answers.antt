@@ -1,12 +1,13 @@
--- `step::begin_masked` meets its contract.
+-- `step::begin_masked` meets its contract: the mask is the first node of the program. Assumes nothing.
 use Rattle.word.specs.Value.{val}
 use Rattle.build.proofs.Laws.{constant-inserted}
 use Rattle.build.proofs.Some.{constant_answers, masked-stop}
 use Rattle.build.proofs.step.begin_masked.Goals as goal
 
+pub returns-in-Id : goal.returns-in-Id
+returns-in-Id c u = rw (constant-inserted, ← c.constant.ensures, c.in-Id.is)
+
 pub returns-in_default : goal.returns-in_default
 returns-in_default c u =
-    rw (constant-inserted, ← c.constant-built.ensures, masked-stop _ _ _ _ _ c.in_default.not-Id (rw (← c.constant-built.ensures) at (constant_answers c.args.g.now c.args.fold.ty (val c.args.fold.mask))))
-
-pub returns : goal.returns
-returns c u = rw (constant-inserted, ← c.constant-built.ensures, c.in-Id.is)
+    let a = c.args in
+    rw (constant-inserted, ← c.constant.ensures, masked-stop _ _ _ _ _ c.in_default.not-Id (rw (← c.constant.ensures) at (constant_answers a.g.now a.fold.ty (val a.fold.mask))))

@@ -1,6 +1,0 @@
-use Rattle.word.specs.Value.{int_of}
-use Rattle.assume.proofs.limit.one_more.Goals as goal
-
-pub returns : goal.returns
-unfolding int_of
-returns c = c.checked_add.ensures
