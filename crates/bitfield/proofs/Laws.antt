@@ -101,8 +101,8 @@ module _ (g : List ℕ) (high low v m : ℕ) (bad : misplaced (concat_bit g high
       by next None q = field-none g high low v i f n (d + suc k) more q
       by next (Some b) q = on next b q (with_bit f i b) refl
 
-pub ruled_out_none : (g : List ℕ) (high low v w : ℕ) → ruled_out g high low v w ≡ true → field_from g high low v 0 w no_bits ≡ None
-ruled_out_none g high low v w e = by (ltb v w) refl
+pub ruled-out : (g : List ℕ) (high low v w : ℕ) → ruled_out g high low v w ≡ true → field_from g high low v 0 w no_bits ≡ None
+ruled-out g high low v w e = by (ltb v w) refl
   where
     test : (t : Bool) → ltb v w ≡ t → cond t (misplaced (concat_bit g high low v v) v) false ≡ true
     test t q = sym (ap (λ (s : Bool). cond s (misplaced (concat_bit g high low v v) v) false) q) ∙ e

@@ -28,10 +28,7 @@ fn has_bit(value: Word, index: u64) -> bool
 pub fn is_above(ty: ScalarType, index: u64) -> bool
     ensures { result ≡ above ty index }
 {
-    match ty {
-        ScalarType::Bits(width) => u64::from(width) <= index,
-        _ => false,
-    }
+    matches!(ty, ScalarType::Bits(width) if u64::from(width) <= index)
 }
 
 fn own(id: NodeId, index: u64) -> BitStep

@@ -26,10 +26,7 @@ fn power(index: u16) -> Word
 fn is_base(base: Option<NodeId>, id: NodeId) -> bool
     ensures { result ≡ same_base (id_of base) id.0 }
 {
-    match base {
-        Some(other) => other.0 == id.0,
-        None => true,
-    }
+    base.is_none_or(|other| other.0 == id.0)
 }
 
 // A literal with this bit at its place.
@@ -112,7 +109,7 @@ fn is_ruled_out(g: &Region, concat: Concat) -> bool
 }
 
 // The bits of a concat, if all are known or one node's own.
-#[tactic(auto, unfolding(crate::specs::Bitfield::fold_bitfield_concat), using(crate::proofs::Laws::ruled_out_none))]
+#[tactic(auto, unfolding(crate::specs::Bitfield::fold_bitfield_concat))]
 pub fn fold_bitfield_concat(g: &Region, concat: Concat) -> Option<Field>
     ensures { maybe_field_of result ≡ fold_bitfield_concat g.now concat.high.0 concat.low.0 concat.low_width concat.width }
 {

@@ -13,10 +13,7 @@ use range::{Range, ScalarType};
 pub fn is_narrow(ty: ScalarType, width: u16) -> bool
     ensures { result ≡ narrow_type ty width }
 {
-    match ty {
-        ScalarType::Bits(actual) => actual <= width,
-        _ => false,
-    }
+    matches!(ty, ScalarType::Bits(actual) if actual <= width)
 }
 
 pub fn is_not_negative(range: Option<Range>) -> bool

@@ -22,7 +22,6 @@ use answer::Refusal;
 use bitfield::equality::fold_masked_comparison;
 use evaluate::{Binary, Unary};
 use fold::operator::{is_equality, is_folded_shift};
-use fold::shape::{is_some, same_type};
 use graph::NodeId;
 use graph::insert::insert;
 use graph::read::{literal, resolve};
@@ -38,7 +37,7 @@ fn is_unary_open(g: &Region, ty: ScalarType, op: Unary, value: NodeId) -> bool
     ensures { result ≡ not (is_some (literal g.now value.0)) && not (same_type ty (type.Bits (unary_width op)) && not (is_stop (modular_plan g.now value.0 (unary_width op)))) }
 {
     let width = op.width();
-    let is_reduction = same_type(ty, ScalarType::Bits(width));
+    let is_reduction = ty == ScalarType::Bits(width);
     literal(g, value).is_none() && !(is_reduction && has_modular_plan(g, value, width))
 }
 

@@ -11,7 +11,7 @@ ghost use Rattle.native.specs.Perform.{UNITS, settled, guard_out, worked, perfor
 use crate::{Answer, direct};
 use answer::Refusal;
 use assume::narrowing::is_narrowing;
-use assume::{Outcome, guard_assumed};
+use assume::{Full, guard_assumed};
 use build::{Budget, range_test};
 use graph::alias::{restore, save_aliases};
 use graph::clear::clear_from;
@@ -53,11 +53,9 @@ fn assume_or_restore(g: &mut Region, condition: NodeId, expected: bool, full: Re
     let nodes = count(g);
     let mut aliases = [0; NODES];
     save_aliases(g, &mut aliases);
-    let outcome = guard_assumed::assume_guard(g, condition, expected);
-    match outcome {
-        Outcome::Unchanged => Ok(Answer::Done),
-        Outcome::Narrowed => Ok(Answer::Done),
-        Outcome::Full => {
+    match guard_assumed::assume_guard(g, condition, expected) {
+        Ok(_) => Ok(Answer::Done),
+        Err(Full) => {
             restore(g, nodes, &aliases);
             Err(full)
         }

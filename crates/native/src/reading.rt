@@ -8,7 +8,6 @@ ghost use Rattle.native.specs.Guard.{reading_of, guard_in_graph, guard_call};
 
 use crate::Answer;
 use answer::Refusal;
-use fold::shape::same_type;
 use graph::layout::{Region, count};
 use graph::read::type_at;
 use graph::well_formed::as_graph;
@@ -67,7 +66,7 @@ pub fn guard_in_graph(g: &Region, condition: NodeId, expected: bool) -> Result<O
     if count(g) <= condition.0 {
         return Err(Refusal::Id);
     }
-    if !same_type(type_at(g, condition), ScalarType::Bool) {
+    if type_at(g, condition) != ScalarType::Bool {
         return Err(Refusal::Typing);
     }
     Ok(guarded::guarded(g, condition, expected))
