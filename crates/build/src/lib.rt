@@ -45,7 +45,7 @@ fn spent() -> Done
     }
 }
 
-// A builder spends a unit for its entry; without one it is refused.
+// A builder spends a unit for its entry; without one it is refused. Inlined, so that the recursion has no frame more.
 #[cycle(builders)]
 #[inline(always)]
 fn enter(g: &mut Region, budget: Budget, start: Start) -> Done

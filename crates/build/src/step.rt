@@ -7,7 +7,7 @@ ghost use Rattle.plan.specs.Plan.{plan_of, first_of, rest_of, does, tries, const
 ghost use Rattle.build.specs.Rest.{rest_plan};
 ghost use Rattle.build.specs.Step.{start_first, Leaves};
 
-use bitfield::Masked;
+use bitfield::{Concat, Masked};
 use evaluate::{Binary, Unary};
 use graph::insert::insert;
 use graph::layout::Region;
@@ -16,6 +16,7 @@ use graph::read::resolve;
 use graph::{Built, NodeId};
 use plan::one_operand::{identity_plan, modular_plan, unary_first, unary_plan};
 use plan::{Attempt, First, Plan, Rest};
+use plan_binary::BinaryNode;
 use plan_binary::binary::{binary_first, binary_plan};
 use plan_slice::slice::{concat_first, concat_plan, slice_first, slice_plan};
 use range::ScalarType;
@@ -69,9 +70,22 @@ fn rest_plan(g: &Region, rest: Rest) -> Plan
 {
     match rest {
         Rest::Unary(value, ty, op) => unary_plan(g, ty, op, value),
-        Rest::Binary(left, right, ty, op) => binary_plan(g, ty, op, left, right),
+        Rest::Binary(left, right, ty, op) => binary_plan(
+            g,
+            BinaryNode {
+                ty,
+                op,
+                left,
+                right,
+            },
+        ),
         Rest::Slice(value, offset, width) => slice_plan(g, value, offset, width),
-        Rest::Concat(high, low, low_width, width) => concat_plan(high, low, low_width, width),
+        Rest::Concat(high, low, low_width, width) => concat_plan(Concat {
+            high,
+            low,
+            low_width,
+            width,
+        }),
     }
 }
 
@@ -83,13 +97,25 @@ fn first_of(g: &Region, start: Start) -> First
         Start::Identity(ty, value) => First::Do(identity_plan(g, ty, value)),
         Start::Unary(ty, value, op) => unary_first(g, ty, op, resolve(g, value)),
         Start::Modular(width, value) => First::Do(modular_plan(g, value, width)),
-        Start::Binary(ty, op, left, right) => {
-            binary_first(g, ty, op, resolve(g, left), resolve(g, right))
-        }
+        Start::Binary(ty, op, left, right) => binary_first(
+            g,
+            BinaryNode {
+                ty,
+                op,
+                left: resolve(g, left),
+                right: resolve(g, right),
+            },
+        ),
         Start::Slice(width, value, offset) => slice_first(g, resolve(g, value), offset, width),
-        Start::Concat(low_width, width, high, low) => {
-            concat_first(g, resolve(g, high), resolve(g, low), low_width, width)
-        }
+        Start::Concat(low_width, width, high, low) => concat_first(
+            g,
+            Concat {
+                high: resolve(g, high),
+                low: resolve(g, low),
+                low_width,
+                width,
+            },
+        ),
         Start::Rest(rest) => First::Do(rest_plan(g, rest)),
     }
 }

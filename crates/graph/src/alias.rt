@@ -6,7 +6,7 @@ ghost use Rattle.graph.specs.Clear.{EmptyPast};
 
 use crate::NodeId;
 use crate::clear::clear_to;
-use crate::layout::{ALIAS, FIRST, LIMIT, NODES, Region, WORDS, count};
+use crate::layout::{ALIAS, LIMIT, NODES, Region, count, start_of};
 
 // The alias of `from` is `to`. An id past the limit names no node, and nothing is written.
 #[tactic(auto, unfolding(crate::specs::Alias::aliased))]
@@ -16,7 +16,7 @@ pub fn set_alias(g: &mut Region, from: NodeId, to: NodeId)
     let NodeId(node) = from;
     let NodeId(target) = to;
     if node < LIMIT && target < LIMIT {
-        g[(FIRST + WORDS * node) as usize + ALIAS] = target + 1;
+        g[start_of(node) + ALIAS] = target + 1;
     }
 }
 
@@ -27,7 +27,7 @@ pub fn save_aliases(g: &Region, words: &mut [u64; NODES])
     ensures { words.new ≡ saved g.now words.old }
 {
     for n in 0..count(g) {
-        words[n as usize] = g[(FIRST + WORDS * n) as usize + ALIAS];
+        words[n as usize] = g[start_of(n) + ALIAS];
     }
 }
 
@@ -37,7 +37,7 @@ fn restore_aliases(g: &mut Region, nodes: u64, words: &[u64; NODES])
     ensures { g.new ≡ restored_up_to nodes words.now g.old }
 {
     for n in 0..nodes {
-        g[(FIRST + WORDS * n) as usize + ALIAS] = words[n as usize];
+        g[start_of(n) + ALIAS] = words[n as usize];
     }
 }
 

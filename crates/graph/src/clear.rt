@@ -3,7 +3,7 @@ ghost use Rattle.std.specs.Prelude.{◌≡◌, ◌≤◌};
 ghost use Rattle.graph.specs.Layout.{REGION, LIMIT};
 ghost use Rattle.graph.specs.Clear.{cleared, EmptyPast};
 
-use crate::layout::{FIRST, LIMIT, Region, WORDS};
+use crate::layout::{LIMIT, Region, start_of};
 
 // Leaves the first `nodes` nodes, where every word past the first `count` is 0: `nodes` is the count, and every word past them is 0.
 #[tactic(auto, using(crate::proofs::Wiping::wiped))]
@@ -12,8 +12,8 @@ pub fn clear_to(g: &mut Region, nodes: u64, count: u64)
     ensures { g.new ≡ cleared nodes g.old }
 {
     g[0] = nodes;
-    let from = (FIRST + WORDS * nodes) as usize;
-    let end = (FIRST + WORDS * count) as usize;
+    let from = start_of(nodes);
+    let end = start_of(count);
     g[from..end].fill(0);
 }
 

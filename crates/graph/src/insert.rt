@@ -7,7 +7,7 @@ ghost use Rattle.graph.specs.Node.{op_of};
 ghost use Rattle.graph.specs.Insert.{same_words, same_key, are_apart, lowest, start, made, built_of, inserted, appended};
 
 use crate::encode::words_of;
-use crate::layout::{FIRST, KEY, LIMIT, OPERATION, Region, SIZE, WORDS, X, Y, count};
+use crate::layout::{KEY, LIMIT, OPERATION, Region, SIZE, X, Y, count, start_of};
 use crate::read::resolve;
 use crate::{Built, NodeId, Operation};
 use range::{Range, ScalarType};
@@ -36,29 +36,10 @@ fn apart(g: &[u64], at: usize, first: u64) -> u64
     requires { at + 8 * WORDS ≤ length g.now }
     ensures { (result ≤ 8) × (are_apart g.now first at result ≡ true) }
 {
-    if g[at + X] == first {
-        return 0;
-    }
-    if g[at + SIZE + X] == first {
-        return 1;
-    }
-    if g[at + 2 * SIZE + X] == first {
-        return 2;
-    }
-    if g[at + 3 * SIZE + X] == first {
-        return 3;
-    }
-    if g[at + 4 * SIZE + X] == first {
-        return 4;
-    }
-    if g[at + 5 * SIZE + X] == first {
-        return 5;
-    }
-    if g[at + 6 * SIZE + X] == first {
-        return 6;
-    }
-    if g[at + 7 * SIZE + X] == first {
-        return 7;
+    for k in 0..8 {
+        if g[at + k * SIZE + X] == first {
+            return k as u64;
+        }
     }
     8
 }
@@ -72,7 +53,7 @@ fn pass_over(g: &Region, from: u64, end: u64, words: &[u64; SIZE]) -> u64
     let last = end.min(LIMIT - 15);
     let mut node = from;
     while node < last {
-        let at = (FIRST + WORDS * node) as usize;
+        let at = start_of(node);
         let low = apart(g, at, first);
         if low < 8 {
             return node + low;
@@ -93,7 +74,7 @@ fn find(g: &Region, from: u64, words: &[u64; SIZE]) -> Option<u64>
     let end = count(g).min(LIMIT);
     let mut node = pass_over(g, from, end, words);
     while node < end {
-        let at = (FIRST + WORDS * node) as usize;
+        let at = start_of(node);
         if g[at + X] != words[X] {
             node = pass_over(g, node + 1, end, words);
         } else if same_key(g, at, words) {
@@ -122,7 +103,7 @@ fn append(g: &mut Region, words: &[u64; SIZE]) -> Built
 {
     let node = count(g);
     if node < LIMIT {
-        store(g, (FIRST + WORDS * node) as usize, words);
+        store(g, start_of(node), words);
         g[0] = node + 1;
         Built::Id(NodeId(node))
     } else {
@@ -135,9 +116,8 @@ fn lowest_id(operation: Operation) -> u64
     ensures { result ≡ min (start (op_of operation)) LIMIT }
 {
     match operation {
-        Operation::Refine(id)
-        | Operation::Slice { value: id, .. }
-        | Operation::Unary(_, id) => past(id.0, 0),
+        Operation::Refine(id) | Operation::Slice { value: id, .. } | Operation::Unary(_, id) =>
+            past(id.0, 0),
         Operation::Concat {
             high: left,
             low: right,
@@ -156,6 +136,7 @@ fn past(a: u64, b: u64) -> u64
 }
 
 // The resolved id of the lowest node with this type, range and operation, or of a new one.
+#[tactic(auto, unfolding(crate::specs::Insert::inserted))]
 pub fn insert(g: &mut Region, ty: ScalarType, range: Option<Range>, operation: Operation) -> Built
     ensures { made (built_of result) g.new ≡ inserted g.old ty (interval_of range) (op_of operation) }
 {

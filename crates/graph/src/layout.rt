@@ -1,7 +1,7 @@
 // Where the words of the region stand, and the codes of the operations that are no operators.
-ghost use Rattle.std.specs.Prelude.{◌≡◌, ◌<◌, ◌+◌};
+ghost use Rattle.std.specs.Prelude.{◌≡◌, ◌<◌, ◌≤◌, ◌+◌};
 ghost use Rattle.word.specs.Value.{val};
-ghost use Rattle.graph.specs.Layout.{WORDS, word_at, count_of};
+ghost use Rattle.graph.specs.Layout.{WORDS, LIMIT, node_start, word_at, count_of};
 ghost use Rattle.graph.specs.Node.{pair};
 
 use word::Word;
@@ -57,13 +57,21 @@ pub const SLICE: u64 = 4;
 
 pub const CONCAT: u64 = 5;
 
+// Where the words of a node begin; of LIMIT, where the region ends.
+pub fn start_of(node: u64) -> usize
+    requires { node ≤ LIMIT }
+    ensures { result ≡ node_start node }
+{
+    (FIRST + WORDS * node) as usize
+}
+
 // Word `index` of a node, 0 for a node past the region.
 pub fn word_at(g: &Region, node: u64, index: usize) -> u64
     requires { index < WORDS }
     ensures { result ≡ word_at g.now node index }
 {
     if node < LIMIT {
-        g[(FIRST + WORDS * node) as usize + index]
+        g[start_of(node) + index]
     } else {
         0
     }

@@ -6,12 +6,12 @@ ghost use Rattle.graph.specs.Layout.{REGION};
 ghost use Rattle.graph.specs.Insert.{made, built_of, constant, constant_interval, input, effect};
 
 use crate::insert::insert;
+use crate::layout::Region;
 use crate::{Built, EffectId, InputId, Operation};
 use evaluate::pattern::reduced;
 use range::typed::type_range;
 use range::{Range, ScalarType};
 use word::Word;
-use crate::layout::Region;
 
 // The range of a constant: itself, but none for Bits above 2^127 - 1.
 fn constant_range(ty: ScalarType, value: Word) -> Option<Range>

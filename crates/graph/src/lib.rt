@@ -60,4 +60,3 @@ pub enum Built {
     Room,
     Units,
 }
-

@@ -6,7 +6,10 @@ ghost use Rattle.graph.specs.Layout.{REGION};
 ghost use Rattle.graph.specs.Node.{type_of, range_of, operation_of, op_of, type_at, range_at, operation_at, node_of, node_at};
 ghost use Rattle.graph.specs.Insert.{literal, resolve};
 
-use crate::layout::{ALIAS, CONCAT, CONSTANT, EFFECT, INPUT, LIMIT, MAX, MIN, OPERATION, RANGE, REFINE, Region, SLICE, TYPE, WIDTH, X, Y, Z, pair_at, word_at};
+use crate::layout::{
+    ALIAS, CONCAT, CONSTANT, EFFECT, INPUT, LIMIT, MAX, MIN, OPERATION, RANGE, REFINE, Region,
+    SLICE, TYPE, WIDTH, X, Y, Z, pair_at, word_at,
+};
 use crate::{EffectId, InputId, Node, NodeId, Operation};
 use evaluate::code::{BINARY, BITS, BOOL, binary_of, unary_of};
 use range::{Range, ScalarType};

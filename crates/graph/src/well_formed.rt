@@ -4,9 +4,14 @@ ghost use Rattle.word.specs.Value.{val};
 ghost use Rattle.graph.specs.Layout.{REGION};
 ghost use Rattle.graph.specs.WellFormed.{is_type, is_range, are_fields, is_operation, is_alias, is_node, are_nodes, are_zeros, is_graph};
 
-use crate::layout::{ALIAS, CONCAT, CONSTANT, EFFECT, FIRST, INPUT, LIMIT, MAX, MIN, OPERATION, RANGE, REFINE, Region, SLICE, TYPE, WIDTH, WORDS, X, Y, Z, count, pair_at, word_at};
+use crate::layout::{
+    ALIAS, CONCAT, CONSTANT, EFFECT, INPUT, LIMIT, MAX, MIN, OPERATION, RANGE, REFINE, Region,
+    SLICE, TYPE, WIDTH, X, Y, Z, count, pair_at, start_of, word_at,
+};
 use crate::read::type_of;
-use evaluate::code::{BITS, BOOL, INTEGER, OFFSETS, WIDEST_WORD, WIDTHS, is_binary_code, is_unary_code};
+use evaluate::code::{
+    BITS, BOOL, INTEGER, OFFSETS, WIDEST_WORD, WIDTHS, is_binary_code, is_unary_code,
+};
 use range::Range;
 use word::Word;
 
@@ -107,7 +112,7 @@ fn is_graph_region(g: &Region) -> bool
     ensures { result ≡ is_graph g.now }
 {
     let nodes = count(g);
-    nodes <= LIMIT && are_nodes(g, nodes) && are_zeros(&g[(FIRST + WORDS * nodes) as usize..])
+    nodes <= LIMIT && are_nodes(g, nodes) && are_zeros(&g[start_of(nodes)..])
 }
 
 // The graph that a slice holds, if it is one.

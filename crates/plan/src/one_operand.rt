@@ -1,8 +1,7 @@
 // The plans of identity, unary and modular.
-ghost use Rattle.std.specs.Prelude.{not, ◌≡◌, length};
+ghost use Rattle.std.specs.Prelude.{not, ◌≡◌};
 ghost use Rattle.range.specs.Interval.{interval_of};
 ghost use Rattle.word.specs.Value.{number_of};
-ghost use Rattle.graph.specs.Layout.{REGION};
 ghost use Rattle.graph.specs.Node.{op_of};
 ghost use Rattle.plan.specs.Plan.{plan_of, first_of, constant_or, is_stop};
 ghost use Rattle.fold.specs.Range.{derived_of};

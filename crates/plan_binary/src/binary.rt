@@ -1,15 +1,15 @@
 // The plan of binary: its decisions in the source's order.
-ghost use Rattle.std.specs.Prelude.{◌≡◌, length, eqb};
+ghost use Rattle.std.specs.Prelude.{◌≡◌, eqb};
 ghost use Rattle.range.specs.Interval.{interval_of};
 ghost use Rattle.word.specs.Value.{number_of};
 ghost use Rattle.word.specs.Option.{provided, from_bool};
 ghost use Rattle.range.specs.declared.ScalarType.TheVariants as type;
 ghost use Rattle.plan.specs.Plan as plan;
-ghost use Rattle.graph.specs.Layout.{REGION};
 ghost use Rattle.plan.specs.Plan.{plan_of, decided_of, first_of};
 ghost use Rattle.fold.specs.Range.{derived_of};
 ghost use Rattle.plan_binary.specs.Binary.{is_swapped, evaluated, compared_plan, with_itself, decided_plan, store_plan, binary_plan, equality_first, open_first, binary_first};
 
+use crate::BinaryNode;
 use crate::constant_right::{literal_plan, offset_plan, sum_plan};
 use crate::shift::shift_plan;
 use bitfield::equality::fold_masked_comparison;
@@ -57,9 +57,15 @@ fn compared_plan(op: Binary, left: Option<Range>, right: Option<Range>) -> Optio
 
 // One node with itself.
 #[tactic(auto, unfolding(word::specs::Value::val))]
-fn with_itself(ty: ScalarType, op: Binary, left: NodeId, right: NodeId) -> Option<Plan>
-    ensures { decided_of result ≡ provided (eqb left.0 right.0) (with_itself ty op left.0) }
+fn with_itself(node: BinaryNode) -> Option<Plan>
+    ensures { decided_of result ≡ provided (eqb node.left.0 node.right.0) (with_itself node.ty node.op node.left.0) }
 {
+    let BinaryNode {
+        ty,
+        op,
+        left,
+        right,
+    } = node;
     if left.0 != right.0 {
         return None;
     }
@@ -79,81 +85,89 @@ fn with_itself(ty: ScalarType, op: Binary, left: NodeId, right: NodeId) -> Optio
 }
 
 // The decisions before the range of the node is known.
-fn decided_plan(g: &Region, ty: ScalarType, op: Binary, left: NodeId, right: NodeId) -> Option<Plan>
-    ensures { decided_of result ≡ decided_plan g.now ty op left.0 right.0 }
+fn decided_plan(g: &Region, node: BinaryNode) -> Option<Plan>
+    ensures { decided_of result ≡ decided_plan g.now node.ty node.op node.left.0 node.right.0 }
 {
-    let known = literal(g, right);
-    offset_plan(g, ty, op, left, known)
-        .or_else(|| compared_plan(op, range_at(g, left), range_at(g, right)))
-        .or_else(|| with_itself(ty, op, left, right))
-        .or_else(|| literal_plan(g, ty, op, left, right, known))
+    let known = literal(g, node.right);
+    offset_plan(g, node, known)
+        .or_else(|| compared_plan(node.op, range_at(g, node.left), range_at(g, node.right)))
+        .or_else(|| with_itself(node))
+        .or_else(|| literal_plan(g, node, known))
 }
 
 // A node of this range, or None without one.
-fn store_plan(
-    ty: ScalarType,
-    op: Binary,
-    left: NodeId,
-    right: NodeId,
-    decided: Option<Plan>,
-    derived: Option<Option<Range>>,
-) -> Plan
-    ensures { plan_of result ≡ store_plan ty op left.0 right.0 (decided_of decided) (derived_of derived) }
+fn store_plan(node: BinaryNode, decided: Option<Plan>, derived: Option<Option<Range>>) -> Plan
+    ensures { plan_of result ≡ store_plan node.ty node.op node.left.0 node.right.0 (decided_of decided) (derived_of derived) }
 {
     let Some(range) = derived else {
         return Plan::None;
     };
     match decided {
         Some(plan) => plan,
-        None => Plan::Add(range, Operation::Binary(op, left, right), ty),
+        None => {
+            let operation = Operation::Binary(node.op, node.left, node.right);
+            Plan::Add(range, operation, node.ty)
+        }
     }
 }
 
 // binary after the masked comparison.
 #[tactic(auto, unfolding(crate::specs::Binary::binary_plan))]
-pub fn binary_plan(g: &Region, ty: ScalarType, op: Binary, left: NodeId, right: NodeId) -> Plan
-    ensures { plan_of result ≡ binary_plan g.now ty op left.0 right.0 }
+pub fn binary_plan(g: &Region, node: BinaryNode) -> Plan
+    ensures { plan_of result ≡ binary_plan g.now node.ty node.op node.left.0 node.right.0 }
 {
-    if let Some(plan) = decided_plan(g, ty, op, left, right) {
+    if let Some(plan) = decided_plan(g, node) {
         return plan;
     }
-    let derived = binary_range(ty, op, range_at(g, left), range_at(g, right));
-    let summed = sum_plan(g, ty, op, left, literal(g, right));
-    store_plan(ty, op, left, right, summed, derived)
+    let left = range_at(g, node.left);
+    let right = range_at(g, node.right);
+    let derived = binary_range(node.ty, node.op, left, right);
+    let summed = sum_plan(g, node, literal(g, node.right));
+    store_plan(node, summed, derived)
 }
 
 // Equal and NotEqual try the masked comparison first.
-fn equality_first(g: &Region, ty: ScalarType, op: Binary, left: NodeId, right: NodeId) -> First
-    ensures { first_of result ≡ equality_first g.now ty op left.0 right.0 }
+fn equality_first(g: &Region, node: BinaryNode) -> First
+    ensures { first_of result ≡ equality_first g.now node.ty node.op node.left.0 node.right.0 }
 {
+    let BinaryNode {
+        ty,
+        op,
+        left,
+        right,
+    } = node;
     if !is_equality(op) {
-        return First::Do(binary_plan(g, ty, op, left, right));
+        return First::Do(binary_plan(g, node));
     }
     match fold_masked_comparison(g, op, left, right) {
         Some(masked) => First::Try(Attempt::Masked(masked), Rest::Binary(left, right, ty, op)),
-        None => First::Do(binary_plan(g, ty, op, left, right)),
+        None => First::Do(binary_plan(g, node)),
     }
 }
 
-fn open_first(g: &Region, ty: ScalarType, op: Binary, left: NodeId, right: NodeId) -> First
-    ensures { first_of result ≡ open_first g.now ty op left.0 right.0 }
+fn open_first(g: &Region, node: BinaryNode) -> First
+    ensures { first_of result ≡ open_first g.now node.ty node.op node.left.0 node.right.0 }
 {
-    let known = literal(g, right);
-    let decided = evaluated(ty, op, literal(g, left), known).or_else(|| shift_plan(
-        g, ty, op, left, known,
-    ));
-    match decided {
+    let known = literal(g, node.right);
+    let constant = evaluated(node.ty, node.op, literal(g, node.left), known);
+    match constant.or_else(|| shift_plan(g, node, known)) {
         Some(plan) => First::Do(plan),
-        None => equality_first(g, ty, op, left, right),
+        None => equality_first(g, node),
     }
 }
 
 #[tactic(auto, unfolding(crate::specs::Binary::binary_first))]
-pub fn binary_first(g: &Region, ty: ScalarType, op: Binary, left: NodeId, right: NodeId) -> First
-    ensures { first_of result ≡ binary_first g.now ty op left.0 right.0 }
+pub fn binary_first(g: &Region, node: BinaryNode) -> First
+    ensures { first_of result ≡ binary_first g.now node.ty node.op node.left.0 node.right.0 }
 {
+    let BinaryNode {
+        ty,
+        op,
+        left,
+        right,
+    } = node;
     if is_swapped(op, literal(g, left), literal(g, right)) {
         return First::Do(Plan::Binary(right, left, ty, op));
     }
-    open_first(g, ty, op, left, right)
+    open_first(g, node)
 }

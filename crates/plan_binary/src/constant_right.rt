@@ -1,14 +1,13 @@
 // Operations with a constant on the right.
-ghost use Rattle.std.specs.Prelude.{◌≡◌, length};
+ghost use Rattle.std.specs.Prelude.{◌≡◌};
 ghost use Rattle.word.specs.Value.{val, number_of};
-ghost use Rattle.word.specs.Option.{given, or_else};
-ghost use Rattle.graph.specs.Layout.{REGION};
-ghost use Rattle.range.specs.declared.ScalarType.TheVariants as type;
+ghost use Rattle.word.specs.Option.{given};
 ghost use Rattle.graph.specs.Node.{type_at};
 ghost use Rattle.fold.specs.Shape.{one_by_constant_of};
 ghost use Rattle.plan.specs.Plan.{plan_of, decided_of};
-ghost use Rattle.plan_binary.specs.Binary.{zero_plan, ones_plan, right_plan, merged_plan, mask_of_mask, mask_plan, literal_plan, remainder_plan, sub_of_sub, sum_of_sum, sum_plan, offset_target, offset_compared, offset_typed, offset_plan};
+ghost use Rattle.plan_binary.specs.Binary.{zero_plan, ones_plan, right_plan, merged_plan, mask_of_mask, mask_plan, literal_plan, remainder_plan, sum_of_sum, sum_plan, offset_target, offset_compared, offset_typed, offset_plan};
 
+use crate::BinaryNode;
 use evaluate::Binary;
 use evaluate::two_operands::binary_value;
 use fold::ByConstant;
@@ -23,23 +22,29 @@ use range::typed::mask;
 use word::Word;
 
 #[tactic(auto, unfolding(word::specs::Value::val))]
-fn zero_plan(ty: ScalarType, op: Binary, left: NodeId) -> Option<Plan>
-    ensures { decided_of result ≡ zero_plan ty op left.0 }
+fn zero_plan(node: BinaryNode) -> Option<Plan>
+    ensures { decided_of result ≡ zero_plan node.ty node.op node.left.0 }
 {
-    if is_kept_by_zero(op) {
-        return Some(Plan::Identity(left, ty));
+    if is_kept_by_zero(node.op) {
+        return Some(Plan::Identity(node.left, node.ty));
     }
-    if is_zero_by_zero(op) {
-        return Some(Plan::Constant(Word::ZERO, ty));
+    if is_zero_by_zero(node.op) {
+        return Some(Plan::Constant(Word::ZERO, node.ty));
     }
     None
 }
 
 // All ones of the type on the right: And keeps, Or gives them.
 #[tactic(auto, unfolding(word::specs::Value::val))]
-fn ones_plan(ty: ScalarType, op: Binary, left: NodeId, right: NodeId, value: Word) -> Option<Plan>
-    ensures { decided_of result ≡ ones_plan ty op left.0 right.0 (val value) }
+fn ones_plan(node: BinaryNode, value: Word) -> Option<Plan>
+    ensures { decided_of result ≡ ones_plan node.ty node.op node.left.0 node.right.0 (val value) }
 {
+    let BinaryNode {
+        ty,
+        op,
+        left,
+        right,
+    } = node;
     match (ty, op) {
         (ScalarType::Bool, Binary::And) if value == Word::ONE => Some(Plan::Give(left)),
         (ScalarType::Bool, Binary::Or) if value == Word::ONE => Some(Plan::Give(right)),
@@ -54,12 +59,12 @@ fn ones_plan(ty: ScalarType, op: Binary, left: NodeId, right: NodeId, value: Wor
 }
 
 #[tactic(auto, using(graph::proofs::Tests::zero_test))]
-fn right_plan(ty: ScalarType, op: Binary, left: NodeId, right: NodeId, value: Word) -> Option<Plan>
-    ensures { decided_of result ≡ right_plan ty op left.0 right.0 (val value) }
+fn right_plan(node: BinaryNode, value: Word) -> Option<Plan>
+    ensures { decided_of result ≡ right_plan node.ty node.op node.left.0 node.right.0 (val value) }
 {
-    let ones = ones_plan(ty, op, left, right, value);
+    let ones = ones_plan(node, value);
     if value.is_zero() {
-        return zero_plan(ty, op, left).or(ones);
+        return zero_plan(node).or(ones);
     }
     ones
 }
@@ -75,15 +80,10 @@ fn merged_plan(ty: ScalarType, op: Binary, base: NodeId, value: Option<Word>) ->
 }
 
 // An operation by a constant of an operation by a constant.
-fn mask_of_mask(
-    ty: ScalarType,
-    op: Binary,
-    right: NodeId,
-    value: Word,
-    shape: ByConstant,
-) -> Option<Plan>
-    ensures { decided_of result ≡ mask_of_mask ty op right.0 (val value) (one_by_constant_of shape) }
+fn mask_of_mask(node: BinaryNode, value: Word, shape: ByConstant) -> Option<Plan>
+    ensures { decided_of result ≡ mask_of_mask node.ty node.op node.right.0 (val value) (one_by_constant_of shape) }
 {
+    let BinaryNode { ty, op, right, .. } = node;
     if shape.op == op && is_bitwise(op) {
         let both = binary_value(op, ty, shape.value, value);
         return Some(merged_plan(ty, op, shape.base, both));
@@ -94,44 +94,30 @@ fn mask_of_mask(
     None
 }
 
-fn mask_plan(
-    g: &Region,
-    ty: ScalarType,
-    op: Binary,
-    left: NodeId,
-    right: NodeId,
-    value: Word,
-) -> Option<Plan>
-    ensures { decided_of result ≡ mask_plan g.now ty op left.0 right.0 (val value) }
+fn mask_plan(g: &Region, node: BinaryNode, value: Word) -> Option<Plan>
+    ensures { decided_of result ≡ mask_plan g.now node.ty node.op node.left.0 node.right.0 (val value) }
 {
-    let ScalarType::Bits(_) = ty else {
+    let ScalarType::Bits(_) = node.ty else {
         return None;
     };
-    mask_of_mask(ty, op, right, value, by_constant_at(g, left)?)
+    mask_of_mask(node, value, by_constant_at(g, node.left)?)
 }
 
 // What a constant on the right decides before the range is known.
-pub(crate) fn literal_plan(
-    g: &Region,
-    ty: ScalarType,
-    op: Binary,
-    left: NodeId,
-    right: NodeId,
-    known: Option<Word>,
-) -> Option<Plan>
-    ensures { decided_of result ≡ literal_plan g.now ty op left.0 right.0 (number_of known) }
+pub(crate) fn literal_plan(g: &Region, node: BinaryNode, known: Option<Word>) -> Option<Plan>
+    ensures { decided_of result ≡ literal_plan g.now node.ty node.op node.left.0 node.right.0 (number_of known) }
 {
     let value = known?;
-    right_plan(ty, op, left, right, value).or_else(|| mask_plan(g, ty, op, left, right, value))
+    right_plan(node, value).or_else(|| mask_plan(g, node, value))
 }
 
 // The remainder by a power of two is an And.
-fn remainder_plan(ty: ScalarType, op: Binary, left: NodeId, value: Word) -> Option<Plan>
-    ensures { decided_of result ≡ remainder_plan ty op left.0 (val value) }
+fn remainder_plan(node: BinaryNode, value: Word) -> Option<Plan>
+    ensures { decided_of result ≡ remainder_plan node.ty node.op node.left.0 (val value) }
 {
-    if op == Binary::RemainderUnsigned && value.is_power_of_two() {
+    if node.op == Binary::RemainderUnsigned && value.is_power_of_two() {
         let bits = value.wrapping_sub(Word::ONE);
-        return Some(Plan::ConstantBinary(bits, left, ty, ty, Binary::And));
+        return Some(Plan::ConstantBinary(bits, node.left, node.ty, node.ty, Binary::And));
     }
     None
 }
@@ -149,22 +135,14 @@ fn sum_of_sum(ty: ScalarType, op: Binary, value: Word, shape: ByConstant) -> Opt
 }
 
 // A remainder or a sum by a constant.
-pub(crate) fn sum_plan(
-    g: &Region,
-    ty: ScalarType,
-    op: Binary,
-    left: NodeId,
-    known: Option<Word>,
-) -> Option<Plan>
-    ensures { decided_of result ≡ given (number_of known) (sum_plan g.now ty op left.0) None }
+pub(crate) fn sum_plan(g: &Region, node: BinaryNode, known: Option<Word>) -> Option<Plan>
+    ensures { decided_of result ≡ given (number_of known) (sum_plan g.now node.ty node.op node.left.0) None }
 {
     let value = known?;
-    remainder_plan(ty, op, left, value).or_else(|| sum_of_sum(
-        ty,
-        op,
-        value,
-        by_constant_at(g, left)?,
-    ))
+    if let Some(plan) = remainder_plan(node, value) {
+        return Some(plan);
+    }
+    sum_of_sum(node.ty, node.op, value, by_constant_at(g, node.left)?)
 }
 
 // The constant that the base of a sum is compared with.
@@ -192,30 +170,25 @@ fn offset_compared(
 }
 
 #[tactic(auto, using(word::proofs::Compared::lt_word))]
-fn offset_typed(g: &Region, ty: ScalarType, op: Binary, left: NodeId, target: Word) -> Option<Plan>
-    ensures { decided_of result ≡ offset_typed g.now ty op left.0 (val target) (type_at g.now left.0) }
+fn offset_typed(g: &Region, node: BinaryNode, target: Word) -> Option<Plan>
+    ensures { decided_of result ≡ offset_typed g.now node.ty node.op node.left.0 (val target) (type_at g.now node.left.0) }
 {
-    let ScalarType::Bits(width) = type_at(g, left) else {
+    let ScalarType::Bits(width) = type_at(g, node.left) else {
         return None;
     };
     if mask(width) < target {
         return None;
     }
-    offset_compared(ty, op, width, target, by_constant_at(g, left)?)
+    let shape = by_constant_at(g, node.left)?;
+    offset_compared(node.ty, node.op, width, target, shape)
 }
 
 // A comparison of a sum with a constant is one of its base.
-pub(crate) fn offset_plan(
-    g: &Region,
-    ty: ScalarType,
-    op: Binary,
-    left: NodeId,
-    known: Option<Word>,
-) -> Option<Plan>
-    ensures { decided_of result ≡ offset_plan g.now ty op left.0 (number_of known) }
+pub(crate) fn offset_plan(g: &Region, node: BinaryNode, known: Option<Word>) -> Option<Plan>
+    ensures { decided_of result ≡ offset_plan g.now node.ty node.op node.left.0 (number_of known) }
 {
-    if !is_equality(op) {
+    if !is_equality(node.op) {
         return None;
     }
-    offset_typed(g, ty, op, left, known?)
+    offset_typed(g, node, known?)
 }

@@ -1,12 +1,11 @@
 // Shifts by a constant.
-ghost use Rattle.std.specs.Prelude.{◌≡◌, length, ◌<◌};
+ghost use Rattle.std.specs.Prelude.{◌≡◌, ◌<◌};
 ghost use Rattle.word.specs.Value.{val, number_of};
-ghost use Rattle.graph.specs.Layout.{REGION};
-ghost use Rattle.range.specs.declared.ScalarType.TheVariants as ty;
 ghost use Rattle.fold.specs.Shape.{one_by_constant_of};
 ghost use Rattle.plan.specs.Plan.{plan_of, decided_of};
 ghost use Rattle.plan_binary.specs.Binary.{is_shifted_out, back_shift, shift_of_shift, shift_by, shift_plan};
 
+use crate::BinaryNode;
 use evaluate::Binary;
 use fold::ByConstant;
 use fold::operator::is_folded_shift;
@@ -44,7 +43,7 @@ fn back_shift(width: u16, count: Word, shape: ByConstant) -> Plan
 }
 
 // A shift of a shift left, both below the width.
-#[tactic(auto, using(word::proofs::Compared::le_word, crate::proofs::Laws::sum_below))]
+#[tactic(auto, using(word::proofs::Compared::le_word))]
 fn shift_of_shift(op: Binary, width: u16, count: Word, shape: ByConstant) -> Option<Plan>
     ensures { decided_of result ≡ shift_of_shift op width (val count) (one_by_constant_of shape) }
 {
@@ -78,20 +77,14 @@ fn shift_by(g: &Region, op: Binary, width: u16, left: NodeId, count: Word) -> Op
 }
 
 // What a shift in Bits by a constant comes to.
-pub(crate) fn shift_plan(
-    g: &Region,
-    ty: ScalarType,
-    op: Binary,
-    left: NodeId,
-    right: Option<Word>,
-) -> Option<Plan>
-    ensures { decided_of result ≡ shift_plan g.now ty op left.0 (number_of right) }
+pub(crate) fn shift_plan(g: &Region, node: BinaryNode, known: Option<Word>) -> Option<Plan>
+    ensures { decided_of result ≡ shift_plan g.now node.ty node.op node.left.0 (number_of known) }
 {
-    let ScalarType::Bits(width) = ty else {
+    let ScalarType::Bits(width) = node.ty else {
         return None;
     };
-    if !is_folded_shift(op) {
+    if !is_folded_shift(node.op) {
         return None;
     }
-    shift_by(g, op, width, left, right?)
+    shift_by(g, node.op, width, node.left, known?)
 }

@@ -1,8 +1,7 @@
 // The plans of slice and concat.
-ghost use Rattle.std.specs.Prelude.{◌≡◌, ◌<◌, length};
+ghost use Rattle.std.specs.Prelude.{◌≡◌, ◌<◌};
 ghost use Rattle.range.specs.Interval.{interval_of};
 ghost use Rattle.word.specs.Value.{val, number_of};
-ghost use Rattle.graph.specs.Layout.{REGION};
 ghost use Rattle.graph.specs.Node.{op_of};
 ghost use Rattle.plan.specs.Plan.{plan_of, decided_of, first_of};
 ghost use Rattle.bitfield.specs.Bitfield.{field_of};
@@ -122,9 +121,8 @@ fn slice_part(g: &Region, value: NodeId, offset: u64, width: u16) -> Plan
 pub fn slice_plan(g: &Region, value: NodeId, offset: u64, width: u16) -> Plan
     ensures { plan_of result ≡ slice_plan g.now value.0 offset width }
 {
-    bounded_plan(range_at(g, value), value, offset, width).unwrap_or_else(|| slice_part(
-        g, value, offset, width,
-    ))
+    let bounded = bounded_plan(range_at(g, value), value, offset, width);
+    bounded.unwrap_or_else(|| slice_part(g, value, offset, width))
 }
 
 fn slice_open(g: &Region, value: NodeId, offset: u64, width: u16) -> First

@@ -10,7 +10,7 @@ ghost use Rattle.retain.specs.Retain.{DROPPED, is_kept, is_keep_list, kept_below
 
 use graph::clear::clear_to;
 use graph::insert::store;
-use graph::layout::{FIRST, OPERATION, Region, SIZE, WORDS, X, Y, Z, count, word_at};
+use graph::layout::{OPERATION, Region, SIZE, X, Y, Z, count, start_of, word_at};
 use keep_list::{has_first, has_second};
 
 // What a dropped node maps to.
@@ -48,7 +48,7 @@ fn move_node(g: &mut Region, mapping: &[u64], node: u64, to: u64)
     ensures { g.new ≡ moved mapping.now g.old node to }
 {
     let words = moved_words(g, mapping, node);
-    store(g, (FIRST + WORDS * to) as usize, &words);
+    store(g, start_of(to), &words);
 }
 
 // One node: kept, it moves to place `next`. The next free place.

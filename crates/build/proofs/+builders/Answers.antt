@@ -4,7 +4,7 @@ use Rattle.build.specs.Build.{exec, build}
 use Rattle.build.specs.Step.{rest_prog}
 use Rattle.build.specs.declared.Budget.{Budget}
 use Rattle.build.specs.declared.step.Start.TheVariants as start
-use Rattle.build.proofs.Laws.{entered_is, entered_none, entered_step, try_none, try_stop, units_fall, none_falls, masked_falls, on_out-tail, on_id-stop, on_nothing-stop, constant-inserted}
+use Rattle.build.proofs.Laws.{entered_is, entered_none, entered_step, try_none, try_stop, units_fall, none_falls, masked_falls, on_out-tail, on_id-stop, constant-inserted}
 use Rattle.build.proofs.+builders.Goals as goal
 use Rattle.build.proofs.+builders.Goals.{try_modular-then-has_modular_plan+in-None, try_modular-else-has_modular_plan}
 

@@ -25,7 +25,7 @@ returns-then-same_key c =
     sym
     (ap (λ (n : ℕ). lowest p a.from (n - a.from)) (sym l.invariant.0)
     ∙ l.invariant.2
-    ∙ lowest_at p l.node c.min-end.result (search rules) (sym c.same_key.ensures ∙ c.if-same_key.true))
+    ∙ lowest_at p l.node c.min-end.result (search rules) (rw c.start_of-at.ensures at (sym c.same_key.ensures ∙ c.if-same_key.true)))
 
 pub loop-node-preserved : goal.loop-node-preserved
 loop-node-preserved c =
@@ -35,14 +35,8 @@ loop-node-preserved c =
       l.invariant.1,
       l.invariant.2
           ∙ lowest_on (same_key a.g.now a.words.now) l.node c.min-end.result (search rules)
-          (sym c.same_key.ensures ∙ c.if-same_key.false),
+          (rw c.start_of-at.ensures at (sym c.same_key.ensures ∙ c.if-same_key.false)),
     )
-
-pub pass_over-node-requires-then-g-at : goal.pass_over-node-requires-then-g-at
-pass_over-node-requires-then-g-at c = search (rules, c.loop-node.invariant.1)
-
-pub loop-node-smaller-then-g-at : goal.loop-node-smaller-then-g-at
-loop-node-smaller-then-g-at c = omega (arith, c.pass_over-node-then-g-at.ensures.0, c.loop-node-test.true)
 
 pub loop-node-preserved-then-g-at : goal.loop-node-preserved-then-g-at
 loop-node-preserved-then-g-at c =
@@ -53,7 +47,7 @@ loop-node-preserved-then-g-at c =
       l.invariant.1,
       l.invariant.2
           ∙ lowest_on (same_key a.g.now a.words.now) l.node c.min-end.result (search rules)
-          (word_differs a.g.now (node_start l.node) KEY a.words.now k X (lit< tt) c.if-g-at.true)
+          (word_differs a.g.now (node_start l.node) KEY a.words.now k X (lit< tt) (rw c.start_of-at.ensures at c.if-g-at.true))
           ∙ sym c.pass_over-node-then-g-at.ensures.1,
     )
 

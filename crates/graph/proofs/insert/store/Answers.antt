@@ -1,12 +1,8 @@
 use Rattle.std.proofs.Common.{◌≡◌, ◌∙◌, ap, List, ℕ, ◌+◌, arith, rules, set}
 use lib.ListN.{get_or, length}
-use lib.Seq.{paste, paste-zero}
 use Rattle.std.proofs.lemmas.List.Edits.{paste_more}
 use Rattle.graph.specs.Layout.{WORDS}
 use Rattle.graph.proofs.insert.store.Goals as goal
-
-pub loop-k-init : goal.loop-k-init
-loop-k-init c = paste-zero c.args.g.now c.args.at c.args.words.now
 
 pub loop-k-preserved : goal.loop-k-preserved
 loop-k-preserved c =
@@ -15,8 +11,3 @@ loop-k-preserved c =
     let n : length a.words.now ≡ WORDS = search rules in
     ap (λ (x : List ℕ). set x (a.at + l.k) (get_or a.words.now l.k 0)) l.invariant
     ∙ paste_more a.g.now a.at a.words.now l.k 0 (omega arith) (omega arith)
-
-pub returns : goal.returns
-returns c =
-    let e : c.loop-k.k ≡ WORDS = omega arith in
-    c.loop-k.invariant ∙ ap (paste c.args.g.now c.args.at c.args.words.now) e

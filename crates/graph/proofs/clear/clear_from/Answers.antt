@@ -1,1 +1,0 @@
--- `clear_from` meets its contract: past the last node that there can be no word follows. Assumes nothing.
