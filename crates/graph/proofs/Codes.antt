@@ -1,12 +1,12 @@
 -- Codes and fields: what is encoded is decoded. Assumes nothing.
 use mathlib.Core.Path.{◌≡◌, refl, sym, ap, ◌∙◌}
-use mathlib.Core.Bool.{Bool, true, false, cond}
+use mathlib.Core.Bool.{cond}
 use Rattle.std.specs.Prelude.{Option, None, Some}
 use Prim.Native.Nat.{ℕ, ◌/◌, ◌%◌, ◌^◌, ◌<◌}
 use native.Mathlib.Nat.{div-add-mod', mod-eq_of_lt}
 use native.Mathlib.Omega.{arith}
 use borrow.Author.Tests.{ne_eqb, lt-ltb, le-ltb}
-use lib.Dec.{eqb, ltb, lit<}
+use lib.Dec.{ltb, lit<}
 use lib.IntN.{ℤ, pos}
 use lib.Pow.{high, low}
 use lib.Signed.{mag}
@@ -22,7 +22,6 @@ use Rattle.evaluate.specs.Operator.{BINARY, unary_code, unary_width, unary_of, b
 use Rattle.evaluate.proofs.Codes.{unary_back, binary_back, unary_code_lem, binary_code_lem}
 use Rattle.graph.specs.Layout.{CONSTANT, INPUT, REFINE, EFFECT, SLICE, CONCAT}
 use Rattle.graph.specs.Node.{Op, constant, input, refine, effect, slice, concat, unary, binary, narrow, pair, type_of, type_code, range_of, range_flag, range_low, range_high, operation_of, op_code, op_x, op_y, op_z}
-use Rattle.graph.specs.Insert.{literal_of}
 
 -- ---- codes
 
@@ -38,20 +37,6 @@ operator code x y z h =
       ne_eqb code SLICE (λ e. omega arith),
       ne_eqb code CONCAT (λ e. omega arith),
     )
-
-either : {A B : Type 0} (f : A → B) (b : B) (t : Bool) {x y : A} → f x ≡ b → f y ≡ b → f (cond t x y) ≡ b
-either f b true p q = p
-either f b false p q = q
-
--- only one code is a constant's
-pub not-constant : (code x y z : ℕ) → (code ≡ CONSTANT → ⊥) → literal_of (operation_of code x y z) ≡ None
-not-constant code x y z h =
-    rw (ne_eqb code CONSTANT h)
-    (either literal_of None (eqb code INPUT) refl
-    (either literal_of None (eqb code REFINE) refl
-    (either literal_of None (eqb code EFFECT) refl
-    (either literal_of None (eqb code SLICE) refl
-    (either literal_of None (eqb code CONCAT) refl (either literal_of None (ltb code BINARY) refl refl))))))
 
 -- ---- fields
 

@@ -1,12 +1,11 @@
 -- Saving alias words and taking back: what was saved of a graph puts it back, whatever nodes were added and aliases set. Assumes nothing.
-use mathlib.Core.Path.{◌≡◌, refl, sym, ap, ◌∙◌, subst}
+use mathlib.Core.Path.{◌≡◌, refl, sym, ◌∙◌, subst}
 use mathlib.Core.Bool.{Bool, true, false, cond, ◌&&◌}
 use mathlib.Core.List.{List}
 use mathlib.Core.Logic.{◌⊎◌, inl, inr, ⊎_elim}
 use Rattle.std.specs.Prelude.{Option}
 use Prim.Native.Nat.{ℕ, zero, suc, ◌+◌, ◌-◌, ◌*◌, ◌/◌, ◌%◌, ◌<◌, ◌≤◌}
 use native.Mathlib.Nat.{div-add-mod', mod-lt, le_refl}
-use native.Mathlib.Numerals.{add-one}
 use native.Mathlib.Omega.{arith}
 use lib.Dec.{ltb, lit<}
 use lib.ListN.{length, get_or, set, length-set}
@@ -33,23 +32,6 @@ length-saved (suc n) g s = length-set (saved_up_to n g s) n (alias_at g n) ∙ l
 length-restored : (n : ℕ) (s h : List ℕ) → length (restored_up_to n s h) ≡ length h
 length-restored zero s h = refl
 length-restored (suc n) s h = length-set (restored_up_to n s h) (node_start n + ALIAS) (get_or s n 0) ∙ length-restored n s h
-
--- ---- the loops
-
--- one alias word more is saved
-pub saved_more : (n : ℕ) (g s w : List ℕ) → w ≡ saved_up_to n g s → set w n (alias_at g n) ≡ saved_up_to (n + 1) g s
-saved_more n g s w e = rw (add-one, e)
-
-pub saved_all : (n : ℕ) (g s w : List ℕ) → n ≡ count_of g → w ≡ saved_up_to n g s → w ≡ saved g s
-unfolding saved
-saved_all n g s w c e = e ∙ ap (λ (k : ℕ). saved_up_to k g s) c
-
--- one alias word more is put back
-pub restored_more : (n : ℕ) (s h w : List ℕ) → w ≡ restored_up_to n s h → set w (node_start n + ALIAS) (get_or s n 0) ≡ restored_up_to (n + 1) s h
-restored_more n s h w e = rw (add-one, e)
-
-pub restored_all : (n m : ℕ) (s h w : List ℕ) → n ≡ m → w ≡ restored_up_to n s h → w ≡ restored_up_to m s h
-restored_all n m s h w c e = e ∙ ap (λ (k : ℕ). restored_up_to k s h) c
 
 -- ---- word by word
 

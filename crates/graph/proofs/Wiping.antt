@@ -9,7 +9,7 @@ use lib.ListN.{length, get_or, set, take, replicate, length-set, length-append, 
 use lib.Seq.{paste, length-paste, get_or-set_same, get_or-set_other, get_or-take, get_or-append-add, length-take-le, ext_get_or}
 use Rattle.std.proofs.lemmas.Slice.{put_mid-paste}
 use Rattle.word.proofs.Integer.{lt-or-ge}
-use Rattle.graph.specs.Layout.{LIMIT, REGION, node_start, count_of}
+use Rattle.graph.specs.Layout.{node_start, count_of}
 use Rattle.graph.specs.Clear.{cleared, EmptyPast}
 use Rattle.graph.proofs.Nodes.{paste_in, paste_below, paste_above}
 
@@ -111,7 +111,3 @@ module _ (n c : ℕ) (h : List ℕ) (l : n ≤ c) (fits : node_start c ≤ lengt
           ap (λ (j : ℕ). get_or (paste counted (node_start n) none size) j 0) e
           ∙ paste_in counted (node_start n) none size hd hs (i - node_start n) (omega arith)
           ∙ get_or-replicate size (i - node_start n) 0 0 (omega arith)
-
--- past the last node that there can be no word follows
-pub none_past : (h : List ℕ) → length h ≡ REGION → EmptyPast LIMIT h
-none_past h e i l = get_or-eq_default h 0 (omega arith)

@@ -27,6 +27,7 @@ use graph::insert::insert;
 use graph::read::{literal, resolve};
 use plan::Plan;
 use plan::one_operand::{has_modular_plan, unary_plan};
+use plan_binary::BinaryNode;
 use plan_binary::binary::binary_plan;
 use plan_slice::slice::slice_plan;
 use range::ScalarType;
@@ -88,7 +89,13 @@ pub(crate) fn binary(
     let a = resolve(g, left);
     let b = resolve(g, right);
     if is_binary_open(g, op, a, b) {
-        let plan = binary_plan(g, ty, op, a, b);
+        let node = BinaryNode {
+            ty,
+            op,
+            left: a,
+            right: b,
+        };
+        let plan = binary_plan(g, node);
         if let Plan::Add(range, operation, kind) = plan {
             return settle(insert(g, kind, range, operation), full);
         }

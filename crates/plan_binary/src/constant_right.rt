@@ -129,7 +129,7 @@ fn sum_of_sum(ty: ScalarType, op: Binary, value: Word, shape: ByConstant) -> Opt
     let sum = binary_value(Binary::Add, ty, shape.value, value);
     match (op, shape.op) {
         (Binary::Add, Binary::Add) => Some(merged_plan(ty, op, shape.base, sum)),
-        (Binary::Sub, Binary::Sub) => Some(merged_plan(ty, op, shape.base, Some(sum?))),
+        (Binary::Sub, Binary::Sub) => Some(Plan::ConstantBinary(sum?, shape.base, ty, ty, op)),
         _ => None,
     }
 }

@@ -27,7 +27,7 @@ fn renumbered(mapping: &[u64], is_operand: bool, word: u64) -> u64
     }
 }
 
-// The words of a node with its operands' new ids, without an alias.
+// The words of a node with its operands' new ids, without an alias. Word by word, since a node past the region reads 0.
 fn moved_words(g: &Region, mapping: &[u64], node: u64) -> [u64; SIZE]
     ensures { result ≡ moved_words (λ i. get_or mapping.now i DROPPED) g.now node }
 {

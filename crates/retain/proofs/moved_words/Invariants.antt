@@ -3,7 +3,7 @@ use mathlib.Core.Path.{◌≡◌}
 use mathlib.Core.List.{◌++◌}
 use Prim.Native.Nat.{◌-◌}
 use lib.ListN.{replicate}
-use Rattle.graph.specs.Layout.{X, WORDS, words_from}
+use Rattle.graph.specs.Layout.{WORDS, words_from}
 use Rattle.retain.proofs.moved_words.Given as goal
 
 abbrev pub invariant-loop-k : goal.invariant-loop-k

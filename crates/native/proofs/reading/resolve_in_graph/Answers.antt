@@ -1,6 +1,5 @@
 -- `resolve_in_graph` meets its contract: question 3, then the end of the aliases.
 use Rattle.native.specs.Call.{resolve_in_graph, id}
-use Rattle.graph.proofs.Grown.{graph_facts}
 use borrow.Author.Tests.{lt-ltb, le-ltb}
 use mathlib.Core.Path.{ap}
 use Rattle.native.proofs.reading.resolve_in_graph.Goals as goal

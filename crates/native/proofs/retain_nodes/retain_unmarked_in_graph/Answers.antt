@@ -1,5 +1,4 @@
 use mathlib.Core.Path.{sym, ◌∙◌}
-use Rattle.graph.proofs.Grown.{graph_facts}
 use Rattle.native.specs.Retain.{kept, retention, retain_in_graph}
 use Rattle.native.proofs.retain_nodes.retain_unmarked_in_graph.Goals as goal
 
