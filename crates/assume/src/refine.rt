@@ -45,11 +45,11 @@ fn refine_step(g: &mut Region, node: NodeId, limits: Limits) -> Result<Step, Ful
 // A node refined to limits, then the base of the sum that it is, and so on.
 pub fn refine(
     g: &mut Region,
-    so_far: Outcome,
+    so_far: Result<Outcome, Full>,
     node: NodeId,
     limits: Limits,
 ) -> Result<Outcome, Full>
-    ensures { assumed (outcome_of result) g.new ≡ refined (outcome_of (Ok so_far)) g.old node.0 (limits_of limits) }
+    ensures { assumed (outcome_of result) g.new ≡ refined (outcome_of so_far) g.old node.0 (limits_of limits) }
 {
     let mut done = so_far;
     let mut at = node;
@@ -57,14 +57,14 @@ pub fn refine(
     for _ in 0..LIMIT {
         let target = resolve(g, at);
         let Step::Narrowed(next) = refine_step(g, target, wanted)? else {
-            return Ok(done);
+            return done;
         };
-        done = Outcome::Narrowed;
+        done = Ok(Outcome::Narrowed);
         let Some(more) = next else {
-            return Ok(done);
+            return done;
         };
         at = more.node;
         wanted = limited_to(more.range);
     }
-    Ok(done)
+    done
 }

@@ -17,6 +17,7 @@ use range::ScalarType;
 use word::Word;
 
 // The value of a constant, or None.
+#[tactic(auto, unfolding(crate::specs::Call::literal_in_graph), using(crate::proofs::Parts::value_answered))]
 pub fn literal_in_graph(g: &Region, id: NodeId) -> Result<Option<Word>, Refusal>
     requires { is_graph g.now ≡ true }
     ensures { outcome_of result ≡ literal_in_graph g.now id.0 }
@@ -59,6 +60,7 @@ pub fn resolve(g: &[u64], id: NodeId) -> Result<Answer, Refusal>
 }
 
 // The guard of a condition.
+#[tactic(auto, unfolding(crate::specs::Guard::guard_in_graph), using(crate::proofs::Parts::guard_answered))]
 pub fn guard_in_graph(g: &Region, condition: NodeId, expected: bool) -> Result<Option<Guard>, Refusal>
     requires { is_graph g.now ≡ true }
     ensures { reading_of result ≡ guard_in_graph g.now condition.0 expected }

@@ -14,17 +14,11 @@ returns-then-not-is_narrowing c = let a = c.args in
     let n = c.is_narrowing in
     rw (guard_idle a.g.now a.condition.0 a.expected (sym n.ensures ∙ c.if-not-is_narrowing.true))
 
-pub returns-in-Unchanged : goal.returns-in-Unchanged
-returns-in-Unchanged c = rw (← c.assume_guard-outcome.ensures, c.in-Unchanged.is)
-
-pub returns-in-Narrowed : goal.returns-in-Narrowed
-returns-in-Narrowed c = rw (← c.assume_guard-outcome.ensures, c.in-Narrowed.is)
-
-pub returns-in-Full : goal.returns-in-Full
-returns-in-Full c = rw (← c.assume_guard-outcome.ensures, c.in-Full.is) (ap (called (refused _)) (taken_back _ _ _ _ _ _ _ _ _ c.requires (length-replicate {A = ℕ} LIMIT 0) c.count-nodes.ensures c.save_aliases.ensures c.assume_guard-outcome.ensures c.restore.ensures))
-
 pub save_aliases-requires : goal.save_aliases-requires
-save_aliases-requires c = (length-replicate {A = ℕ} LIMIT 0, (graph_facts _ c.requires).count)
+save_aliases-requires c = (graph_facts _ c.requires).count
 
 pub restore-requires : goal.restore-requires
-restore-requires c = (c.save_aliases.auto.words, rw c.count-nodes.ensures (graph_facts _ c.requires).count)
+restore-requires c = rw c.count-nodes.ensures (graph_facts _ c.requires).count
+
+pub returns-in-Err : goal.returns-in-Err
+returns-in-Err c = rw (← c.assume_guard.ensures, c.in-Err.is) (ap (called (refused _)) (taken_back _ _ _ _ _ _ _ _ _ c.requires (length-replicate {A = ℕ} LIMIT 0) c.count-nodes.ensures c.save_aliases.ensures c.assume_guard.ensures c.restore.ensures))
