@@ -1,5 +1,5 @@
 // Aliases: the one place that sets them, and taking back what a call set and added.
-ghost use Rattle.std.specs.Prelude.{◌≡◌, ◌≤◌};
+ghost use Rattle.std.specs.Prelude.{◌≡◌, ◌≤◌, length};
 ghost use Rattle.graph.specs.Layout.{REGION, LIMIT, count_of};
 ghost use Rattle.graph.specs.Alias.{aliased, saved, restored_up_to, restored};
 ghost use Rattle.graph.specs.Clear.{EmptyPast};
@@ -20,10 +20,10 @@ pub fn set_alias(g: &mut Region, from: NodeId, to: NodeId)
     }
 }
 
-// The alias words of all nodes, into the first elements of `words`.
+// The alias words of all nodes, into the first elements of `words`: a slice, since a mark lends a part of its region.
 #[tactic(auto, unfolding(crate::specs::Alias::saved))]
-pub fn save_aliases(g: &Region, words: &mut [u64; NODES])
-    requires { count_of g.now ≤ LIMIT }
+pub fn save_aliases(g: &Region, words: &mut [u64])
+    requires { (length words.old ≡ LIMIT) × (count_of g.now ≤ LIMIT) }
     ensures { words.new ≡ saved g.now words.old }
 {
     for n in 0..count(g) {

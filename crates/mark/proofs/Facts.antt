@@ -1,12 +1,12 @@
 -- What question 1 says of the marks: the counts rise with the marks up to the graph's, and the alias words pass. Assumes nothing.
 use mathlib.Core.Path.{◌≡◌, refl, subst}
-use mathlib.Core.Bool.{true, false}
+use mathlib.Core.Bool.{Bool, true, false, ◌&&◌}
 use mathlib.Core.List.{List}
 use mathlib.Core.Logic.{⊎_elim}
 use Prim.Native.Nat.{ℕ, zero, suc, ◌<◌, ◌≤◌}
 use native.Mathlib.Nat.{le_refl}
 use native.Mathlib.Omega.{arith}
-use borrow.Author.Tests.{eqb-true, leb-true, eq-eqb, le-leb}
+use borrow.Author.Tests.{eqb-true, leb-true, eq-eqb, ne_eqb, le-leb}
 use lib.Dec.{eqb, leb}
 use lib.ListN as list
 use lib.ListN.{get_or}
@@ -120,3 +120,13 @@ marks_are nodes m e l = rw (eq-eqb (list.length m) MARKS e, le-leb (standing m) 
 
 pub regions_facts : (g m : List ℕ) → is_marked g m ≡ true → Graph g × Marks (count_of g) m
 regions_facts g m e = let d = marked_both g m e in (graph_facts g d.0, marks_facts (count_of g) m d.1)
+
+-- ---- a slice of another length
+
+pub short_marks : (g m : List ℕ) → (list.length m ≡ MARKS → ⊥) → is_marked g m ≡ false
+unfolding is_marked are_marks
+short_marks g m h = rw (ne_eqb _ MARKS h) (no_second (is_graph g))
+  where
+    no_second : (b : Bool) → b && false ≡ false
+    no_second true = refl
+    no_second false = refl

@@ -29,14 +29,12 @@ pub fn mark_in_graph(g: &Region, m: &mut Marks) -> Result<MarkId, Refusal>
 pub fn mark(g: &[u64], m: &mut [u64]) -> Result<MarkId, Refusal>
     ensures { marking (marking_of result) m.new ≡ mark_call g.now m.old }
 {
-    let (Some(graph), Some(marks)) = (g.as_array(), m.as_mut_array()) else {
+    if !is_marked(g, m) {
         return Err(Refusal::Graph);
-    };
-    if is_marked(graph, marks) {
-        mark_in_graph(graph, marks)
-    } else {
-        Err(Refusal::Graph)
     }
+    let graph = g.as_array().unwrap();
+    let marks = m.as_mut_array().unwrap();
+    mark_in_graph(graph, marks)
 }
 
 // The graph as it was at a mark that stands; later marks are dropped.
@@ -57,12 +55,10 @@ pub fn return_to_in_graph(g: &mut Region, m: &mut Marks, mark: MarkId) -> Result
 pub fn return_to(g: &mut [u64], m: &mut [u64], mark: MarkId) -> Result<Answer, Refusal>
     ensures { returning (answer_of result) g.new m.new ≡ return_call g.old m.old mark.0 }
 {
-    let (Some(graph), Some(marks)) = (g.as_mut_array(), m.as_mut_array()) else {
+    if !is_marked(g, m) {
         return Err(Refusal::Graph);
-    };
-    if is_marked(graph, marks) {
-        return_to_in_graph(graph, marks, mark)
-    } else {
-        Err(Refusal::Graph)
     }
+    let graph = g.as_mut_array().unwrap();
+    let marks = m.as_mut_array().unwrap();
+    return_to_in_graph(graph, marks, mark)
 }

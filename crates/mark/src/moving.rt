@@ -17,9 +17,7 @@ pub(crate) fn set_mark(g: &Region, m: &mut Marks, mark: u64)
     let at = (FIRST + SPAN * mark) as usize;
     m[0] = mark + 1;
     m[at] = count(g);
-    let from = at + 1;
-    let to = from + NODES;
-    save_aliases(g, &mut m[from..to]);
+    save_aliases(g, &mut m[at + 1..at + 1 + NODES]);
 }
 
 // The graph as it was at a mark.
@@ -28,11 +26,8 @@ pub(crate) fn go_back(g: &mut Region, m: &Marks, mark: u64)
     ensures { g.new ≡ returned g.old m.now mark }
 {
     let at = (FIRST + SPAN * mark) as usize;
-    let nodes = m[at];
-    let from = at + 1;
-    let to = from + NODES;
-    let now = count(g);
-    restore_to(g, nodes, now, &m[from..to]);
+    let words = m[at + 1..at + 1 + NODES].as_array().unwrap();
+    restore_to(g, m[at], count(g), words);
 }
 
 // The first marks alone stand.

@@ -35,12 +35,10 @@ pub fn retain_in_graph(g: &mut Region, m: &mut Marks, keep: &[u8], mapping: &mut
 pub fn retain(g: &mut [u64], m: &mut [u64], keep: &[u8], mapping: &mut [u64]) -> Result<u64, Refusal>
     ensures { retaining (retention (outcome_of result) g.new mapping.new) m.new ≡ retain_call g.old m.old keep.now mapping.old }
 {
-    let (Some(graph), Some(marks)) = (g.as_mut_array(), m.as_mut_array()) else {
+    if !is_marked(g, m) {
         return Err(Refusal::Graph);
-    };
-    if is_marked(graph, marks) {
-        retain_in_graph(graph, marks, keep, mapping)
-    } else {
-        Err(Refusal::Graph)
     }
+    let graph = g.as_mut_array().unwrap();
+    let marks = m.as_mut_array().unwrap();
+    retain_in_graph(graph, marks, keep, mapping)
 }

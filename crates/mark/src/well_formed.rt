@@ -13,12 +13,7 @@ fn are_aliases(words: &[u64], nodes: u64) -> bool
     requires { nodes ≤ length words.now }
     ensures { result ≡ are_aliases words.now nodes }
 {
-    for n in 0..nodes {
-        if !is_alias(n, nodes, words[n as usize]) {
-            return false;
-        }
-    }
-    true
+    (0..nodes).all(|n| is_alias(n, nodes, words[n as usize]))
 }
 
 // A mark of at most `limit` nodes, with alias words of a graph.

@@ -1,7 +1,7 @@
 use mathlib.Core.Path.{ap, ◌∙◌}
 use Rattle.native.specs.Retain.{Retention}
 use Rattle.mark.specs.Mark.{unmarked, retaining, retain_in_graph}
-use Rattle.mark.proofs.Facts.{marked_both, regions_facts}
+use Rattle.mark.proofs.Facts.{marked_both}
 use Rattle.mark.proofs.retain_nodes.retain_in_graph.Goals as goal
 
 pub retain_unmarked_in_graph-retained-requires : goal.retain_unmarked_in_graph-retained-requires

@@ -15,7 +15,7 @@ returns-then-not-is_narrowing c = let a = c.args in
     rw (guard_idle a.g.now a.condition.0 a.expected (sym n.ensures ∙ c.if-not-is_narrowing.true))
 
 pub save_aliases-requires : goal.save_aliases-requires
-save_aliases-requires c = (graph_facts _ c.requires).count
+save_aliases-requires c = (length-replicate {A = ℕ} LIMIT 0, (graph_facts _ c.requires).count)
 
 pub restore-requires : goal.restore-requires
 restore-requires c = rw c.count-nodes.ensures (graph_facts _ c.requires).count

@@ -1,9 +1,0 @@
--- The first words are alias words.
-use mathlib.Core.Path.{◌≡◌}
-use mathlib.Core.Bool.{true}
-use lib.ListN.{get_or}
-use Rattle.graph.specs.WellFormed.{is_alias, all_pass}
-use Rattle.mark.proofs.well_formed.are_aliases.Given as goal
-
-abbrev pub invariant-loop-n : goal.invariant-loop-n
-invariant-loop-n l = all_pass (λ i. is_alias i l.nodes (get_or l.words i 0)) l.n ≡ true
