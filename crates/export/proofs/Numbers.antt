@@ -1,5 +1,5 @@
 -- Marks and matches as one number, by their parts and by what they stand for.
-use Rattle.std.specs.Prelude.{ℕ, ◌≡◌, Bool, Result, Ok, Err, refl}
+use Rattle.std.specs.Prelude.{◌≡◌, Bool, Result, Ok, Err, refl}
 use Rattle.word.specs.Option.{from_bool}
 use Rattle.answer.specs.declared.Refusal.{Refusal}
 use Rattle.native.specs.Call.{numbered}

@@ -22,7 +22,8 @@ fn answered_in_graph(g: &mut [u64], numbers: Numbers) -> u64
     requires { is_graph g.old ≡ true }
     ensures { exported result g.new ≡ numbered (request_in_graph g.old (asked_by numbers)) }
 {
-    call_in_graph(g, request_of(numbers)).number()
+    let graph = g.as_mut_array().unwrap();
+    call_in_graph(graph, request_of(numbers)).number()
 }
 
 // The same of a request, for the calls whose request is made where they stand: their numbers are not written and read again.
@@ -30,7 +31,8 @@ fn asked_in_graph(g: &mut [u64], request: Request) -> u64
     requires { is_graph g.old ≡ true }
     ensures { exported result g.new ≡ numbered (request_in_graph g.old (request_of request)) }
 {
-    call_in_graph(g, request).number()
+    let graph = g.as_mut_array().unwrap();
+    call_in_graph(graph, request).number()
 }
 
 fn answered(g: &mut [u64], numbers: Numbers) -> u64
@@ -39,6 +41,7 @@ fn answered(g: &mut [u64], numbers: Numbers) -> u64
     call(g, request_of(numbers)).number()
 }
 
+#[tactic(auto, unfolding(word::specs::Value::val))]
 #[unsafe(no_mangle)]
 pub extern "C" fn scalars_constant_in_graph(
     g: &mut [u64],

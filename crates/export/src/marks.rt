@@ -5,7 +5,6 @@ ghost use Rattle.mark.specs.WellFormed.{is_marked};
 ghost use Rattle.mark.specs.Mark.{mark_in_graph, mark_call, return_in_graph, return_call};
 ghost use Rattle.export.specs.Marks.{MarkedAs, ReturnedAs};
 
-use crate::reading::number_of;
 use mark::well_formed::is_marked;
 use mark::{MarkId, calls};
 use native::Numbered;
@@ -15,7 +14,7 @@ use native::Numbered;
 pub extern "C" fn scalars_is_marked(g: &[u64], m: &[u64]) -> u64
     ensures { result ≡ from_bool (is_marked g.now m.now) }
 {
-    number_of(is_marked(g, m))
+    u64::from(is_marked(g, m))
 }
 
 // For a caller that knows the regions to be a graph with its marks: on other regions nothing is promised, not even that lent words
@@ -25,7 +24,9 @@ pub extern "C" fn scalars_mark_in_graph(g: &[u64], m: &mut [u64]) -> u64
     requires { is_marked g.now m.old ≡ true }
     ensures { MarkedAs result m.new (mark_in_graph g.now m.old) }
 {
-    calls::mark_in_graph(g, m).number()
+    let graph = g.as_array().unwrap();
+    let marks = m.as_mut_array().unwrap();
+    calls::mark_in_graph(graph, marks).number()
 }
 
 #[unsafe(no_mangle)]
@@ -41,7 +42,9 @@ pub extern "C" fn scalars_return_to_in_graph(g: &mut [u64], m: &mut [u64], mark:
     requires { is_marked g.old m.old ≡ true }
     ensures { ReturnedAs result g.new m.new (return_in_graph g.old m.old mark) }
 {
-    calls::return_to_in_graph(g, m, MarkId(mark)).number()
+    let graph = g.as_mut_array().unwrap();
+    let marks = m.as_mut_array().unwrap();
+    calls::return_to_in_graph(graph, marks, MarkId(mark)).number()
 }
 
 #[unsafe(no_mangle)]

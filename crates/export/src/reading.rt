@@ -18,7 +18,7 @@ use evaluate::code::WIDEST_WORD;
 use evaluate::one_operand::evaluate_unary;
 use evaluate::two_operands::evaluate_binary;
 use graph::NodeId;
-use graph::layout::{FIRST, Region, SIZE, WORDS, count};
+use graph::layout::{Region, SIZE, count, start_of};
 use graph::well_formed::is_graph;
 use guard::Guard;
 use native::{Answer, Numbered, reading, refused_as};
@@ -33,13 +33,15 @@ pub const WRONG_LENGTH: u64 = 0x8000_0000_0000_0001;
 pub extern "C" fn scalars_is_graph(g: &[u64]) -> u64
     ensures { result ≡ from_bool (is_graph g.now) }
 {
-    number_of(is_graph(g))
+    u64::from(is_graph(g))
 }
 
-pub(crate) fn number_of(truth: bool) -> u64
-    ensures { result ≡ from_bool truth }
+// The region of a graph.
+fn region_of(g: &[u64]) -> &Region
+    requires { is_graph g.now ≡ true }
+    ensures { result.now ≡ g.now }
 {
-    if truth { 1 } else { 0 }
+    g.as_array().unwrap()
 }
 
 // Words go into a slice of their length.
@@ -77,7 +79,7 @@ pub extern "C" fn scalars_literal_in_graph(g: &[u64], id: u64, out: &mut [u64]) 
     requires { is_graph g.now ≡ true }
     ensures { exported result out.new ≡ written (literal_in_graph g.now id) out.old }
 {
-    write_value(out, reading::literal_in_graph(g, NodeId(id)))
+    write_value(out, reading::literal_in_graph(region_of(g), NodeId(id)))
 }
 
 #[unsafe(no_mangle)]
@@ -92,7 +94,7 @@ pub extern "C" fn scalars_resolve_in_graph(g: &[u64], id: u64) -> u64
     requires { is_graph g.now ≡ true }
     ensures { result ≡ answer_number (resolve_in_graph g.now id) }
 {
-    reading::resolve_in_graph(g, NodeId(id)).number()
+    reading::resolve_in_graph(region_of(g), NodeId(id)).number()
 }
 
 #[unsafe(no_mangle)]
@@ -108,7 +110,7 @@ fn words_at(g: &Region, node: u64) -> &[u64]
     ensures words { result.now ≡ words_at g.now node }
     ensures len { length result.now ≡ WORDS }
 {
-    let start = (FIRST + WORDS * node) as usize;
+    let start = start_of(node);
     &g[start..start + SIZE]
 }
 
@@ -118,12 +120,14 @@ pub extern "C" fn scalars_node_in_graph(g: &[u64], id: u64, out: &mut [u64]) -> 
     requires { is_graph g.now ≡ true }
     ensures { exported result out.new ≡ node_in_graph g.now id out.old }
 {
-    if count(g) <= id {
+    let graph = region_of(g);
+    if count(graph) <= id {
         return refused_as(Refusal::Id);
     }
-    put(out, words_at(g, id))
+    put(out, words_at(graph, id))
 }
 
+#[tactic(auto, unfolding(crate::specs::Reading::node_call))]
 #[unsafe(no_mangle)]
 pub extern "C" fn scalars_node(g: &[u64], id: u64, out: &mut [u64]) -> u64
     ensures { exported result out.new ≡ node_call g.now id out.old }
@@ -143,8 +147,8 @@ fn words_of(guard: Guard) -> [u64; 5]
         guard.operation.code(),
         guard.left.0,
         guard.right.0,
-        number_of(guard.expected),
-        number_of(guard.host64),
+        u64::from(guard.expected),
+        u64::from(guard.host64),
     ]
 }
 
@@ -159,18 +163,17 @@ fn write_guard(out: &mut [u64], found: Result<Option<Guard>, Refusal>) -> u64
 }
 
 // Question 3, then what the expected answer's number names.
+#[tactic(auto, unfolding(crate::specs::Reading::guard_by_number))]
 fn guard_by_number(g: &[u64], condition: u64, expected: u64) -> Result<Option<Guard>, Refusal>
     requires { is_graph g.now ≡ true }
     ensures { reading_of result ≡ guard_by_number g.now condition expected }
 {
-    if count(g) <= condition {
+    let graph = region_of(g);
+    if count(graph) <= condition {
         return Err(Refusal::Id);
     }
-    let named = truth_by_number(expected);
-    match named {
-        Some(wanted) => reading::guard_in_graph(g, NodeId(condition), wanted),
-        None => Err(Refusal::Typing),
-    }
+    let wanted = truth_by_number(expected).ok_or(Refusal::Typing)?;
+    reading::guard_in_graph(graph, NodeId(condition), wanted)
 }
 
 // The guard of a condition: 1 and its words; None; or a refusal.
@@ -187,6 +190,7 @@ pub extern "C" fn scalars_guard_in_graph(
     write_guard(out, guard_by_number(g, condition, expected))
 }
 
+#[tactic(auto, unfolding(crate::specs::Reading::guard_numbered))]
 #[unsafe(no_mangle)]
 pub extern "C" fn scalars_guard(g: &[u64], condition: u64, expected: u64, out: &mut [u64]) -> u64
     ensures { exported result out.new ≡ guard_written (guard_numbered g.now condition expected) out.old }
@@ -202,28 +206,17 @@ pub extern "C" fn scalars_guard(g: &[u64], condition: u64, expected: u64, out: &
 fn values_guard(operator: u64, expected: u64, host64: u64) -> Option<Guard>
     ensures { guard_of result ≡ values_guard operator expected host64 }
 {
-    let named = binary_by_code(operator);
-    let Some(op) = named else {
-        return None;
-    };
-    let truth = truth_by_number(expected);
-    let Some(wanted) = truth else {
-        return None;
-    };
-    let words = truth_by_number(host64);
-    let Some(host) = words else {
-        return None;
-    };
     Some(Guard {
-        operation: op,
+        operation: binary_by_code(operator)?,
         left: NodeId(0),
         right: NodeId(0),
-        expected: wanted,
-        host64: host,
+        expected: truth_by_number(expected)?,
+        host64: truth_by_number(host64)?,
     })
 }
 
 // Do two values match a guard? 1 or 0, or refused 4 where a number names nothing or the operator is none that it takes.
+#[tactic(auto, unfolding(crate::specs::Reading::matches_by_code, word::specs::Value::val), using(crate::proofs::Numbers::number_match))]
 #[unsafe(no_mangle)]
 pub extern "C" fn scalars_matches(
     operator: u64,
@@ -236,8 +229,7 @@ pub extern "C" fn scalars_matches(
 ) -> u64
     ensures { result ≡ matches_by_code operator expected host64 (pair left_low left_high) (pair right_low right_high) }
 {
-    let named = values_guard(operator, expected, host64);
-    let Some(guard) = named else {
+    let Some(guard) = values_guard(operator, expected, host64) else {
         return refused_as(Refusal::Typing);
     };
     let left = Word {
@@ -252,36 +244,30 @@ pub extern "C" fn scalars_matches(
 }
 
 // An operator by its code on patterns, after question 2.
+#[tactic(auto, unfolding(crate::specs::Reading::unary_evaluated))]
 fn unary_evaluated(operator: u64, parameter: u64, value: Word) -> Result<Option<Word>, Refusal>
     ensures { outcome_of result ≡ unary_evaluated operator parameter (val value) }
 {
     if WIDEST_WORD < parameter {
         return Err(Refusal::Width);
     }
-    let named = unary_by_code(operator, parameter);
-    match named {
-        Some(op) => evaluate_unary(op, value),
-        None => Err(Refusal::Typing),
-    }
+    let op = unary_by_code(operator, parameter).ok_or(Refusal::Typing)?;
+    evaluate_unary(op, value)
 }
 
+#[tactic(auto, unfolding(crate::specs::Reading::binary_evaluated))]
 fn binary_evaluated(operator: u64, code: u64, width: u64, left: Word, right: Word) -> Result<Option<Word>, Refusal>
     ensures { outcome_of result ≡ binary_evaluated operator code width (val left) (val right) }
 {
     if WIDEST_WORD < width {
         return Err(Refusal::Width);
     }
-    let named = type_by_code(code, width);
-    let Some(ty) = named else {
-        return Err(Refusal::Typing);
-    };
-    let operation = binary_by_code(operator);
-    match operation {
-        Some(op) => evaluate_binary(op, ty, left, right),
-        None => Err(Refusal::Typing),
-    }
+    let ty = type_by_code(code, width).ok_or(Refusal::Typing)?;
+    let op = binary_by_code(operator).ok_or(Refusal::Typing)?;
+    evaluate_binary(op, ty, left, right)
 }
 
+#[tactic(auto, unfolding(crate::specs::Reading::masked))]
 fn mask_of(width: u64) -> Result<Option<Word>, Refusal>
     ensures { outcome_of result ≡ masked width }
 {
@@ -292,6 +278,7 @@ fn mask_of(width: u64) -> Result<Option<Word>, Refusal>
     }
 }
 
+#[tactic(auto, unfolding(word::specs::Value::val))]
 #[unsafe(no_mangle)]
 pub extern "C" fn scalars_evaluate_unary(
     operator: u64,
@@ -308,6 +295,7 @@ pub extern "C" fn scalars_evaluate_unary(
     )
 }
 
+#[tactic(auto, unfolding(word::specs::Value::val))]
 #[unsafe(no_mangle)]
 pub extern "C" fn scalars_evaluate_binary(
     operator: u64,

@@ -8,9 +8,10 @@ ghost use Rattle.export.specs.Numbers.{constant_by_code, input_by_code, effect_b
 
 use graph::{EffectId, InputId, NodeId};
 use request::Request;
-use request::codes::{binary_by_code, clamped_width, range_by_words, truth_by_number, type_by_code, unary_by_code};
+use request::codes::{binary_by_code, clamped_width, truth_by_number, type_by_code, unary_by_code};
 use word::Word;
 use range::Range;
+use graph::read::range_of;
 
 // The numbers of a call. A type is its code and width, a 128-bit number two, low half first.
 #[derive(Clone, Copy)]
@@ -35,36 +36,37 @@ pub enum Numbers {
     Guard(u64, u64),
 }
 
+#[tactic(auto, unfolding(crate::specs::Numbers::constant_by_code))]
 pub(crate) fn constant_request(code: u64, width: u64, value: Word) -> Request
     ensures { request_of result ≡ constant_by_code code width (val value) }
 {
-    let named = type_by_code(code, width);
-    match named {
+    match type_by_code(code, width) {
         Some(ty) => Request::Constant(value, ty),
         None => Request::UnnamedLeaf(clamped_width(width)),
     }
 }
 
+#[tactic(auto, unfolding(crate::specs::Numbers::input_by_code))]
 fn input_request(number: u64, code: u64, width: u64, range: Option<Range>) -> Request
     ensures { request_of result ≡ input_by_code number code width (interval_of range) }
 {
-    let named = type_by_code(code, width);
-    match named {
+    match type_by_code(code, width) {
         Some(ty) => Request::Input(InputId(number), range, ty),
         None => Request::UnnamedLeaf(clamped_width(width)),
     }
 }
 
+#[tactic(auto, unfolding(crate::specs::Numbers::effect_by_code))]
 fn effect_request(number: u64, code: u64, width: u64) -> Request
     ensures { request_of result ≡ effect_by_code number code width }
 {
-    let named = type_by_code(code, width);
-    match named {
+    match type_by_code(code, width) {
         Some(ty) => Request::Effect(EffectId(number), ty),
         None => Request::UnnamedLeaf(clamped_width(width)),
     }
 }
 
+#[tactic(auto, unfolding(crate::specs::Numbers::unary_by_codes))]
 pub(crate) fn unary_request(
     code: u64,
     width: u64,
@@ -80,38 +82,37 @@ pub(crate) fn unary_request(
         clamped_width(width),
         clamped_width(parameter),
     );
-    let named = type_by_code(code, width);
-    let Some(ty) = named else {
+    let Some(ty) = type_by_code(code, width) else {
         return unnamed;
     };
-    let operation = unary_by_code(operator, parameter);
-    let Some(op) = operation else {
+    let Some(op) = unary_by_code(operator, parameter) else {
         return unnamed;
     };
     Request::Unary(NodeId(id), ty, op)
 }
 
+#[tactic(auto, unfolding(crate::specs::Numbers::binary_by_codes))]
 pub(crate) fn binary_request(code: u64, width: u64, operator: u64, left: u64, right: u64) -> Request
     ensures { request_of result ≡ binary_by_codes code width operator left right }
 {
     let unnamed = Request::UnnamedOperation(NodeId(left), NodeId(right), clamped_width(width), 0);
-    let named = type_by_code(code, width);
-    let Some(ty) = named else {
+    let Some(ty) = type_by_code(code, width) else {
         return unnamed;
     };
-    let operation = binary_by_code(operator);
-    let Some(op) = operation else {
+    let Some(op) = binary_by_code(operator) else {
         return unnamed;
     };
     Request::Binary(NodeId(left), NodeId(right), ty, op)
 }
 
+#[tactic(auto, unfolding(crate::specs::Numbers::slice_by_numbers))]
 pub(crate) fn slice_request(id: u64, offset: u64, width: u64) -> Request
     ensures { request_of result ≡ slice_by_numbers id offset width }
 {
     Request::Slice(NodeId(id), clamped_width(offset), clamped_width(width))
 }
 
+#[tactic(auto, unfolding(crate::specs::Numbers::concat_by_numbers))]
 pub(crate) fn concat_request(high: u64, low: u64, low_width: u64, width: u64) -> Request
     ensures { request_of result ≡ concat_by_numbers high low low_width width }
 {
@@ -123,17 +124,18 @@ pub(crate) fn concat_request(high: u64, low: u64, low_width: u64, width: u64) ->
     )
 }
 
+#[tactic(auto, unfolding(crate::specs::Numbers::guard_by_numbers))]
 fn guard_request(condition: u64, expected: u64) -> Request
     ensures { request_of result ≡ guard_by_numbers condition expected }
 {
-    let named = truth_by_number(expected);
-    match named {
+    match truth_by_number(expected) {
         Some(wanted) => Request::Guard(NodeId(condition), wanted),
         None => Request::UnnamedOperation(NodeId(condition), NodeId(condition), 0, 0),
     }
 }
 
-fn range_of(flag: u64, min_low: u64, min_high: u64, max_low: u64, max_high: u64) -> Option<Range>
+#[tactic(auto, unfolding(word::specs::Value::val))]
+fn range_of_ends(flag: u64, min_low: u64, min_high: u64, max_low: u64, max_high: u64) -> Option<Range>
     ensures { interval_of result ≡ range_of flag (pair min_low min_high) (pair max_low max_high) }
 {
     let min = Word {
@@ -144,7 +146,7 @@ fn range_of(flag: u64, min_low: u64, min_high: u64, max_low: u64, max_high: u64)
         lo: max_low,
         hi: max_high,
     };
-    range_by_words(flag, min, max)
+    range_of(flag, min, max)
 }
 
 fn range_request(id: u64, low: Word, high: Word) -> Request
@@ -154,6 +156,7 @@ fn range_request(id: u64, low: Word, high: Word) -> Request
 }
 
 // The request that the numbers ask for.
+#[tactic(auto, unfolding(word::specs::Value::val))]
 pub(crate) fn request_of(numbers: Numbers) -> Request
     ensures { request_of result ≡ asked_by numbers }
 {
@@ -162,7 +165,7 @@ pub(crate) fn request_of(numbers: Numbers) -> Request
             constant_request(code, width, Word { lo: low, hi: high })
         }
         Numbers::Input(number, code, width, flag, min_low, min_high, max_low, max_high) => {
-            let range = range_of(flag, min_low, min_high, max_low, max_high);
+            let range = range_of_ends(flag, min_low, min_high, max_low, max_high);
             input_request(number, code, width, range)
         }
         Numbers::Effect(number, code, width) => effect_request(number, code, width),

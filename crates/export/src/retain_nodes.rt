@@ -19,7 +19,9 @@ pub extern "C" fn scalars_retain_in_graph(
     requires { is_marked g.old m.old ≡ true }
     ensures { KeptAs result g.new m.new mapping.new (retain_in_graph g.old m.old keep.now mapping.old) }
 {
-    retain_in_graph(g, m, keep, mapping).number()
+    let graph = g.as_mut_array().unwrap();
+    let marks = m.as_mut_array().unwrap();
+    retain_in_graph(graph, marks, keep, mapping).number()
 }
 
 #[unsafe(no_mangle)]

@@ -1,25 +1,24 @@
 -- Laws of the lines and steps of a record: a line put in parts, a call and its line as a step, and a region that is no graph.
 -- Assumes nothing.
-use mathlib.Core.Bool.{Bool, true, false}
+use mathlib.Core.Bool.{true, false}
 use mathlib.Core.List.{List, ◌++◌}
 use Rattle.std.specs.Prelude.{Option, None, Some}
 use mathlib.Core.Path.{◌≡◌, refl, ◌∙◌}
-use Prim.Native.Nat.{ℕ, ◌+◌, ◌-◌, ◌^◌, ◌≤◌, ◌<◌}
+use Prim.Native.Nat.{ℕ, ◌+◌, ◌^◌, ◌≤◌, ◌<◌}
 use native.Mathlib.Omega.{arith}
-use borrow.Author.Tests.{leb-true, le-leb}
-use lib.Dec.{eqb, leb}
-use lib.ListN.{length, get_or, length-append, take-append-drop}
+use borrow.Author.Tests.{le-leb}
+use lib.ListN.{length, length-append, take-append-drop}
 use Rattle.text.specs.Text.{placed, decimal}
 use Rattle.text.proofs.Placing.{placed-placed}
 use Rattle.text.proofs.Decimal.{decimal_digits}
-use Rattle.word.specs.Option.{is_some, provided, only}
+use Rattle.word.specs.Option.{is_some}
 use Rattle.answer.specs.declared.Refusal.TheVariants as no
 use Rattle.answer.specs.Refusal.{refusal_number}
 use Rattle.graph.specs.WellFormed.{is_graph}
 use Rattle.native.specs.Call.{Response, Called, called}
 use Rattle.native.specs.Perform.{request_in_graph, request_call}
 use Rattle.native.specs.Retain.{Outcome, Retention, retention, retain_in_graph, retain_call}
-use Rattle.record.specs.Record.{Asked, request, retain, asked, tag_in, body_length, HEADER}
+use Rattle.record.specs.Record.{Asked, request, retain, asked}
 use Rattle.record.specs.Line.{LINE, NEWLINE, BAD, REFUSED, numbered, answer_line, retain_line}
 use Rattle.record.specs.Perform.{goes_on, ends, says, ends_bad, answered, kept_line, done_by, effect_call, effect_in_graph, left, written, record_in_graph, record_call}
 
@@ -43,16 +42,6 @@ numbered-put d w n {r} {s} room p q e =
       omega (arith, length-append (w ++ decimal n) NEWLINE),
       e.1 ∙ rw (q.1, p.1, at, p.0, behind) (placed-placed d 0 (w ++ decimal n) NEWLINE (omega arith)),
     )
-
--- ---- records
-
--- a record that has a tag has a header
-pub tag_header : (bs : List ℕ) {t : ℕ} → tag_in bs ≡ Some t → HEADER ≤ length bs
-tag_header bs {t} e = by (leb HEADER (length bs)) (only (eqb (body_length bs) (length bs - HEADER)) (get_or bs 0 0)) refl e
-  where
-    by : (b : Bool) (o : Option ℕ) → leb HEADER (length bs) ≡ b → provided b o ≡ Some t → HEADER ≤ length bs
-    by true o f h = leb-true HEADER (length bs) f
-    by false o f h = let z : ◌≡◌ {A = ℕ} 0 1 = cc in absurd (omega arith)
 
 -- ---- steps
 

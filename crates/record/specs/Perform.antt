@@ -18,11 +18,11 @@ pub data Progress : Type 0 where
   ends : ℕ → Progress
   no_room : Progress
 
--- what a Step stands for
-abbrev pub progress_of : Step → Progress
-progress_of (step.Line n) = goes_on n
-progress_of (step.Last n) = ends n
-progress_of step.NoRoom = no_room
+-- what a Step stands for, and none of it
+abbrev pub progress_of : Option Step → Progress
+progress_of (Some (step.Line n)) = goes_on n
+progress_of (Some (step.Last n)) = ends n
+progress_of None = no_room
 
 -- ---- what a record comes to
 

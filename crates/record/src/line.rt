@@ -1,4 +1,5 @@
-// The lines of the program, put at the start of a lent slice.
+// The lines of the program, put at the start of a lent slice. They are byte strings, and not `write!`: `Display` promises nothing of the
+// bytes that it writes, and these contracts name each of them.
 ghost use Rattle.std.specs.Prelude.{cond, ◌≡◌, ◌≤◌, leb, length};
 ghost use Rattle.text.specs.Text.{placed};
 ghost use Rattle.answer.specs.Refusal.{refusal_number};

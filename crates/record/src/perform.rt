@@ -1,6 +1,6 @@
 // One record: the call that it asks for, and its line. `.._in_graph` is for a caller that knows the region to be a graph: on another
 // region nothing is promised.
-ghost use Rattle.std.specs.Prelude.{true, ◌≡◌, min, ◌≤◌, length, take};
+ghost use Rattle.std.specs.Prelude.{List, ℕ, Some, true, false, ◌≡◌, min, ◌≤◌, length, take};
 ghost use Rattle.word.specs.Option.{is_some};
 ghost use Rattle.graph.specs.WellFormed.{is_graph};
 ghost use Rattle.native.specs.Perform.{request_in_graph};
@@ -10,7 +10,6 @@ ghost use Rattle.record.specs.Line.{LINE};
 ghost use Rattle.record.specs.Perform.{left, progress_of, lent_words, widened, done_by, written, record_in_graph, record_call};
 
 use crate::decode::request_in;
-use crate::fields::short_of;
 use crate::line::{LINE, put_answer, put_bad, put_refusal, put_retained};
 use answer::Refusal;
 use graph::layout::{Region, count};
@@ -24,23 +23,24 @@ const HEADER: usize = 3;
 // The tag of a retain.
 const RETAIN: u8 = 10;
 
-// What a record came to: a line of so many bytes, and reading goes on or ends; or there is no room for a line, and nothing was done.
+// A record's line of so many bytes, and whether reading goes on or ends. Where there is no room for a line there is none, and nothing
+// was done.
 #[derive(Clone, Copy)]
 pub enum Step {
     Line(usize),
     Last(usize),
-    NoRoom,
 }
 
 // How many bytes the first record of some bytes has.
+#[tactic(auto, unfolding(crate::specs::Record::first_length))]
 pub fn first_length(bytes: &[u8]) -> Option<usize>
     ensures { result ≡ first_length bytes.now }
 {
-    if bytes.len() < HEADER {
+    let [_, low, high, rest @ ..] = bytes else {
         return None;
-    }
-    let body = short_of(&bytes[1..3]) as usize;
-    if bytes.len() - HEADER < body {
+    };
+    let body = u16::from_le_bytes([*low, *high]) as usize;
+    if rest.len() < body {
         return None;
     }
     Some(HEADER + body)
@@ -50,25 +50,20 @@ pub fn first_length(bytes: &[u8]) -> Option<usize>
 fn tag_in(bytes: &[u8]) -> Option<u8>
     ensures { result ≡ tag_in bytes.now }
 {
-    if bytes.len() < HEADER {
+    let [tag, low, high, body @ ..] = bytes else {
+        return None;
+    };
+    if body.len() != u16::from_le_bytes([*low, *high]) as usize {
         return None;
     }
-    let body = short_of(&bytes[1..3]) as usize;
-    if body != bytes.len() - HEADER {
-        return None;
-    }
-    Some(bytes[0])
+    Some(*tag)
 }
 
 // As many words of a mapping as there are nodes, as far as it has them.
 fn lent_words(nodes: u64, words: usize) -> usize
     ensures { result ≡ min nodes words }
 {
-    if nodes < words as u64 {
-        nodes as usize
-    } else {
-        words
-    }
+    nodes.min(words as u64) as usize
 }
 
 fn retain_listed(g: &mut Region, mapping: &mut [u64], keep: &[u8]) -> Result<u64, Refusal>
@@ -82,72 +77,71 @@ fn retain_listed(g: &mut Region, mapping: &mut [u64], keep: &[u8]) -> Result<u64
 // What a tag and a body ask for.
 fn perform_body(g: &mut Region, mapping: &mut [u64], tag: u8, body: &[u8], line: &mut [u8]) -> Step
     requires { (is_graph g.old ≡ true) × (LINE ≤ length line.old) }
-    ensures { left (progress_of result) g.new mapping.new line.new ≡ written line.old (done_by (request_in_graph g.old) (retain_in_graph g.old) g.old mapping.old (asked_in tag body.now)) }
+    ensures { left (progress_of (Some result)) g.new mapping.new line.new ≡ written line.old (done_by (request_in_graph g.old) (retain_in_graph g.old) g.old mapping.old (asked_in tag body.now)) }
 {
     if tag == RETAIN {
         let retained = retain_listed(g, mapping, body);
         return Step::Line(put_retained(retained, line));
     }
-    let named = request_in(tag, body);
-    match named {
-        Some(asked) => {
-            let answer = call_in_graph(g, asked);
-            Step::Line(put_answer(answer, line))
-        }
-        None => Step::Last(put_bad(line)),
-    }
+    let Some(request) = request_in(tag, body) else {
+        return Step::Last(put_bad(line));
+    };
+    let answer = call_in_graph(g, request);
+    Step::Line(put_answer(answer, line))
 }
 
-pub fn perform_in_graph(g: &mut Region, mapping: &mut [u64], bytes: &[u8], line: &mut [u8]) -> Step
+pub fn perform_in_graph(
+    g: &mut Region,
+    mapping: &mut [u64],
+    bytes: &[u8],
+    line: &mut [u8],
+) -> Option<Step>
     requires { is_graph g.old ≡ true }
     ensures { left (progress_of result) g.new mapping.new line.new ≡ record_in_graph g.old mapping.old bytes.now line.old }
 {
     if line.len() < LINE {
-        return Step::NoRoom;
+        return None;
     }
-    let tag = tag_in(bytes);
-    match tag {
-        Some(named) => perform_body(g, mapping, named, &bytes[HEADER..], line),
-        None => Step::Last(put_bad(line)),
-    }
-}
-
-fn is_body(tag: u8, body: &[u8]) -> bool
-    ensures { result ≡ is_some (asked_in tag body.now) }
-{
-    if tag == RETAIN {
-        return true;
-    }
-    let named = request_in(tag, body);
-    match named {
-        Some(_) => true,
-        None => false,
-    }
+    let Some(tag) = tag_in(bytes) else {
+        return Some(Step::Last(put_bad(line)));
+    };
+    Some(perform_body(g, mapping, tag, &bytes[HEADER..], line))
 }
 
 // Is this no bad record?
+#[tactic(auto, unfolding(crate::specs::Record::asked))]
 fn is_record(bytes: &[u8]) -> bool
     ensures { result ≡ is_some (asked bytes.now) }
 {
-    let tag = tag_in(bytes);
-    match tag {
-        Some(named) => is_body(named, &bytes[HEADER..]),
-        None => false,
+    let Some(tag) = tag_in(bytes) else {
+        return false;
+    };
+    tag == RETAIN || request_in(tag, &bytes[HEADER..]).is_some()
+}
+
+// On a region that is no graph whatever is asked for is refused; a bad record comes before that.
+fn refuse(bytes: &[u8], line: &mut [u8]) -> Option<Step>
+    ensures { (g m : List ℕ) → is_graph g ≡ false → left (progress_of result) g m line.new ≡ record_call g m bytes.now line.old }
+{
+    if line.len() < LINE {
+        return None;
+    }
+    if is_record(bytes) {
+        Some(Step::Line(put_refusal(Refusal::Graph, line)))
+    } else {
+        Some(Step::Last(put_bad(line)))
     }
 }
 
-pub fn perform(g: &mut [u64], mapping: &mut [u64], bytes: &[u8], line: &mut [u8]) -> Step
+pub fn perform(g: &mut [u64], mapping: &mut [u64], bytes: &[u8], line: &mut [u8]) -> Option<Step>
     ensures { left (progress_of result) g.new mapping.new line.new ≡ record_call g.old mapping.old bytes.now line.old }
 {
-    if is_graph(g) {
-        return perform_in_graph(g, mapping, bytes, line);
-    }
-    if line.len() < LINE {
-        return Step::NoRoom;
-    }
-    if is_record(bytes) {
-        Step::Line(put_refusal(Refusal::Graph, line))
+    let Some(region) = g.as_mut_array() else {
+        return refuse(bytes, line);
+    };
+    if is_graph(region) {
+        perform_in_graph(region, mapping, bytes, line)
     } else {
-        Step::Last(put_bad(line))
+        refuse(bytes, line)
     }
 }

@@ -14,13 +14,15 @@ use lib.Seq.{take-add, drop-drop, length-take-le, take-append-add, drop-append-a
 use Rattle.word.specs.Option.{only}
 use Rattle.range.proofs.Answers.{none-some, some_is}
 use Rattle.record.specs.Record.{little, Bytes, first_length}
-use Rattle.record.specs.Perform.{goes_on, ends, no_room, Effect, effect_in_graph, effect_call, left, record_in_graph}
+use Rattle.record.specs.declared.perform.Step.{Step}
+use Rattle.record.specs.declared.perform.Step.TheVariants as step
+use Rattle.record.specs.Perform.{progress_of, goes_on, ends, no_room, Effect, effect_in_graph, effect_call, left, record_in_graph}
 use Rattle.record.proofs.Little.{bytes_drop}
 use Rattle.record.proofs.Parts.{part_from}
 use Rattle.record.proofs.Within.{went_on, ended, had_no_room}
 use Rattle.meaning.specs.Program.{Run, next, Grown}
 use Rattle.meaning.proofs.Program.{bytes_take, effect-asked, grown-effect, grown-is_graph}
-use Rattle.scalars.specs.Blocks.{Wrote, Waits, runs, joined, standing, AllWhole, Through, Stops}
+use Rattle.scalars.specs.Blocks.{Wrote, StepSays, Waits, runs, joined, standing, AllWhole, Through, Stops}
 
 -- ---- the first record
 
@@ -129,6 +131,11 @@ module _ (g m bytes line h w after : List ℕ) (k : ℕ) (whole : first_length b
       let l = had_no_room g m line h w after (effect_in_graph g m (take k bytes)) same q in
       record { why = inr l.short; graph = l.graph; mapping = l.mapping; unwritten = l.line }
 
+  -- by the step
+  pub one_says : (s : Step) → left (progress_of (Some s)) h w after ≡ record_in_graph g m (take k bytes) line → StepSays k s g m bytes line h w after
+  one_says (step.Line n) q = wrote_on n q
+  one_says (step.Last n) q = wrote_last n q
+
 -- ---- parts as code takes them
 
 -- the rest of a slice put back after another part of it
@@ -155,6 +162,10 @@ module _ {g m input out h w after : List ℕ} {read written : ℕ} (b : Bytes in
   turn_reads {k} {n} {is_last} {i} {x} {line} o =
       let u = through_turn o in
       ((first_of rest k o.whole).header, u.within.0, u.within.1)
+
+  pub step_reads : {k : ℕ} (s : Step) (i x line : List ℕ) → StepSays k s h w rest room i x line → (3 ≤ k) × (read + k ≤ length input)
+  step_reads (step.Line n) i x line o = let r = turn_reads o in (r.0, r.1)
+  step_reads (step.Last n) i x line o = let r = turn_reads o in (r.0, r.1)
 
   -- without a whole record or room nothing has changed
   pub through_waits : {i x line : List ℕ} → Waits h w rest room i x line → Through g m input out read written false i x (back line)

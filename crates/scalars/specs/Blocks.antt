@@ -1,14 +1,13 @@
 -- Records in blocks of bytes: what a run over the records at the start of a block leaves.
 use Rattle.std.specs.Prelude.{Bool, true, false, List, [], ◌∷◌, ◌++◌, ◌⊎◌, ◌≡◌, ℕ, ◌≤◌, ◌<◌, length, take, drop}
-use Rattle.std.specs.Prelude.{None, Some}
+use Rattle.std.specs.Prelude.{Option, None, Some}
 use Rattle.record.specs.Record.{first_length}
 use Rattle.record.specs.Line.{LINE}
 use Rattle.record.specs.Perform.{effect_in_graph}
+use Rattle.record.specs.declared.perform.Step.{Step}
+use Rattle.record.specs.declared.perform.Step.TheVariants as step
 use Rattle.meaning.specs.Program.{Run, next, Grown}
 use Rattle.scalars.specs.declared.blocks.One.{One}
-use Rattle.scalars.specs.declared.blocks.One.TheVariants as one
-use Rattle.scalars.specs.declared.blocks.Drained.{Drained}
-use Rattle.scalars.specs.declared.blocks.Drained.TheVariants as drained
 use Rattle.scalars.specs.declared.blocks.State.{State}
 use Rattle.scalars.specs.declared.blocks.State.TheVariants as state
 
@@ -28,11 +27,15 @@ pub record Waits (g m bytes line h w after : List ℕ) : Type 0 where
   pub mapping : w ≡ m
   pub unwritten : after ≡ line
 
--- what a One says of the slices before and after it
-abbrev pub OneSays : One → List ℕ → List ℕ → List ℕ → List ℕ → List ℕ → List ℕ → List ℕ → Type 0
-OneSays (one.Line k n) g m bytes line h w after = Wrote g m bytes line k n false h w after
-OneSays (one.Last k n) g m bytes line h w after = Wrote g m bytes line k n true h w after
-OneSays one.Nothing g m bytes line h w after = Waits g m bytes line h w after
+-- what its length and its step say of them
+abbrev pub StepSays : ℕ → Step → List ℕ → List ℕ → List ℕ → List ℕ → List ℕ → List ℕ → List ℕ → Type 0
+StepSays k (step.Line n) g m bytes line h w after = Wrote g m bytes line k n false h w after
+StepSays k (step.Last n) g m bytes line h w after = Wrote g m bytes line k n true h w after
+
+-- what the first record says of the slices before and after it
+abbrev pub OneSays : Option One → List ℕ → List ℕ → List ℕ → List ℕ → List ℕ → List ℕ → List ℕ → Type 0
+OneSays None g m bytes line h w after = Waits g m bytes line h w after
+OneSays (Some one) g m bytes line h w after = StepSays one.len one.step g m bytes line h w after
 
 -- ---- the records of a block
 
@@ -70,17 +73,9 @@ abbrev pub Stops : List ℕ → List ℕ → ℕ → ℕ → Bool → Type 0
 Stops input out read written true = Unit {0}
 Stops input out read written false = (first_length (drop read input) ≡ None) ⊎ (length (drop written out) < LINE)
 
--- ---- what is left of a block
-
--- so many bytes of a block are done
-abbrev pub Drains : Drained → List ℕ → Type 0
-Drains (drained.Waiting n) input = n ≤ length input
-Drains drained.Over input = Unit {0}
-Drains drained.Failed input = Unit {0}
+-- ---- what is left of a buffer
 
 -- so many bytes of a buffer are filled
-abbrev pub Fills : State → List ℕ → Type 0
-Fills (state.Reading n) input = n ≤ length input
-Fills (state.Ended n) input = n ≤ length input
-Fills state.Over input = Unit {0}
-Fills state.Failed input = Unit {0}
+abbrev pub Fills : List ℕ → State → Type 0
+Fills input (state.Reading n) = n ≤ length input
+Fills input (state.Ended n) = n ≤ length input

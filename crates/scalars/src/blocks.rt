@@ -1,20 +1,18 @@
 // Records in blocks: as many as a block holds whole, their lines, and what is left over.
-ghost use Rattle.std.specs.Prelude.{◌≤◌, length};
+ghost use Rattle.std.specs.Prelude.{◌≤◌, length, IfOk, IfSome};
 ghost use Rattle.meaning.specs.Program.{Grown};
-ghost use Rattle.scalars.specs.Blocks.{OneSays, Through, Stops, Drains, Fills};
+ghost use Rattle.scalars.specs.Blocks.{OneSays, Through, Stops, Fills};
 
 use graph::layout::{Region, count};
 use record::line::put_nodes;
 use record::perform::{Step, first_length, perform_in_graph};
-use std::io::{Read, Stdin, Stdout, Write};
+use std::io::{self, Read, Stdin, Stdout, Write};
 
-// The first record of some bytes: the bytes read and those written, and reading goes on or ends; or it is not there whole, or there is
-// no room for its line.
+// The first record of some bytes: how many it has, and its line.
 #[derive(Clone, Copy)]
-pub enum One {
-    Line(usize, usize),
-    Last(usize, usize),
-    Nothing,
+pub struct One {
+    pub len: usize,
+    pub step: Step,
 }
 
 // What the records of a block came to: the bytes read and those written, and whether a bad record ended them.
@@ -25,38 +23,21 @@ pub struct Ran {
     pub over: bool,
 }
 
-// So many bytes of a block are done, the others wait for more; a bad record was told; or a write failed.
-#[derive(Clone, Copy)]
-pub enum Drained {
-    Waiting(usize),
-    Over,
-    Failed,
-}
-
-// So many bytes of the buffer are filled, and there may be more; the input ended with so many left; a bad record was told; or a write
-// failed.
+// So many bytes of the buffer are filled, and there may be more; or nothing more is read, and so many are left.
 #[derive(Clone, Copy)]
 pub enum State {
     Reading(usize),
     Ended(usize),
-    Over,
-    Failed,
 }
 
-fn run_one(g: &mut Region, mapping: &mut [u64], bytes: &[u8], line: &mut [u8]) -> One
+// None where the first record is not there whole, or there is no room for its line.
+fn run_one(g: &mut Region, mapping: &mut [u64], bytes: &[u8], line: &mut [u8]) -> Option<One>
     requires { Grown g.old }
     ensures { OneSays result g.old mapping.old bytes.now line.old g.new mapping.new line.new }
 {
-    let first = first_length(bytes);
-    let Some(len) = first else {
-        return One::Nothing;
-    };
-    let step = perform_in_graph(g, mapping, &bytes[0..len], line);
-    match step {
-        Step::Line(n) => One::Line(len, n),
-        Step::Last(n) => One::Last(len, n),
-        Step::NoRoom => One::Nothing,
-    }
+    let len = first_length(bytes)?;
+    let step = perform_in_graph(g, mapping, &bytes[..len], line)?;
+    Some(One { len, step })
 }
 
 // The whole records at the start of a block, as long as there is room for their lines.
@@ -67,69 +48,52 @@ fn run_records(g: &mut Region, mapping: &mut [u64], input: &[u8], out: &mut [u8]
 {
     let mut read = 0;
     let mut written = 0;
-    loop {
-        let one = run_one(g, mapping, &input[read..], &mut out[written..]);
-        match one {
-            One::Line(k, n) => {
-                read += k;
+    while let Some(one) = run_one(g, mapping, &input[read..], &mut out[written..]) {
+        read += one.len;
+        match one.step {
+            Step::Line(n) => {
                 written += n;
             }
-            One::Last(k, n) => {
+            Step::Last(n) => {
                 return Ran {
-                    read: read + k,
+                    read,
                     written: written + n,
                     over: true,
                 };
             }
-            One::Nothing => {
-                return Ran {
-                    read: read,
-                    written: written,
-                    over: false,
-                };
-            }
         }
+    }
+    Ran {
+        read,
+        written,
+        over: false,
     }
 }
 
-// Runs a block's records and writes their lines, until no whole record is left.
+// Runs a block's records and writes their lines, until no whole record is left. So many bytes of the block are done, and the others wait
+// for more; none where a bad record ends reading.
 fn drain(
     mut stdout: Stdout,
     g: &mut Region,
     mapping: &mut [u64],
     input: &[u8],
     out: &mut [u8],
-) -> Drained
+) -> io::Result<Option<usize>>
     requires { Grown g.old }
-    ensures drains { Drains result input.now }
+    ensures drains { IfOk result (λ waiting. IfSome waiting (λ done. done ≤ length input.now)) }
     ensures grown { Grown g.new }
 {
     let mut done = 0;
     loop {
         let ran = run_records(g, mapping, &input[done..], out);
-        let written = ran.written;
-        if stdout.write_all(&out[0..written]).is_err() {
-            return Drained::Failed;
-        }
+        stdout.write_all(&out[..ran.written])?;
         if ran.over {
-            return Drained::Over;
+            return Ok(None);
         }
-        let read = ran.read;
-        if read == 0 {
-            return Drained::Waiting(done);
+        if ran.read == 0 {
+            return Ok(Some(done));
         }
-        done += read;
-    }
-}
-
-// Moves the bytes from `from` to `to` to the start of the buffer.
-fn move_down(input: &mut [u8], from: usize, to: usize)
-    requires { to ≤ length input.old }
-{
-    let mut i = 0;
-    while from + i < to {
-        input[i] = input[from + i];
-        i += 1;
+        done += ran.read;
     }
 }
 
@@ -137,10 +101,7 @@ fn move_down(input: &mut [u8], from: usize, to: usize)
 fn read_some(mut stdin: Stdin, input: &mut [u8]) -> usize
     ensures { result ≤ length input.old }
 {
-    match stdin.read(input) {
-        Ok(got) => got,
-        Err(_) => 0,
-    }
+    stdin.read(input).unwrap_or(0)
 }
 
 pub(crate) fn turn(
@@ -151,25 +112,21 @@ pub(crate) fn turn(
     input: &mut [u8],
     filled: usize,
     out: &mut [u8],
-) -> State
+) -> io::Result<State>
     requires { Grown g.old × (filled ≤ length input.old) }
-    ensures fills { Fills result input.old }
+    ensures fills { IfOk result (Fills input.old) }
     ensures grown { Grown g.new }
 {
     let got = read_some(stdin, &mut input[filled..]);
     if got == 0 {
-        return State::Ended(filled);
+        return Ok(State::Ended(filled));
     }
     let end = filled + got;
-    let drained = drain(stdout, g, mapping, &input[0..end], out);
-    match drained {
-        Drained::Waiting(done) => {
-            move_down(input, done, end);
-            State::Reading(end - done)
-        }
-        Drained::Over => State::Over,
-        Drained::Failed => State::Failed,
-    }
+    let Some(done) = drain(stdout, g, mapping, &input[..end], out)? else {
+        return Ok(State::Ended(0));
+    };
+    input.copy_within(done..end, 0);
+    Ok(State::Reading(end - done))
 }
 
 // What is left at the end of the input is a record cut off.
@@ -178,14 +135,15 @@ fn end_inside(g: &mut Region, mapping: &mut [u64], rest: &[u8], out: &mut [u8]) 
     ensures upper_bound { result ≤ length out.old }
     ensures grown { Grown g.new }
 {
-    if rest.len() == 0 {
+    if rest.is_empty() {
         return 0;
     }
-    let step = perform_in_graph(g, mapping, rest, out);
-    match step {
-        Step::Line(n) => n,
-        Step::Last(n) => n,
-        Step::NoRoom => 0,
+
+    // Two arms: an or-pattern leaves the goals without names to cite.
+    match perform_in_graph(g, mapping, rest, out) {
+        Some(Step::Line(n)) => n,
+        Some(Step::Last(n)) => n,
+        None => 0,
     }
 }
 
@@ -196,10 +154,10 @@ pub(crate) fn finish(
     mapping: &mut [u64],
     rest: &[u8],
     out: &mut [u8],
-)
+) -> io::Result<()>
     requires { Grown g.old }
 {
     let at = end_inside(g, mapping, rest, out);
-    let end = put_nodes(count(g), &mut out[at..]);
-    let _is_written = stdout.write_all(&out[0..at + end]).is_ok();
+    let end = at + put_nodes(count(g), &mut out[at..]);
+    stdout.write_all(&out[..end])
 }

@@ -7,9 +7,9 @@ ghost use Rattle.meaning.specs.Program.{Grown};
 
 use blocks::{State, finish, turn};
 use graph::layout::{NODES, REGION, Region};
-use std::io::{Stdin, Stdout};
+use std::io::{self, Stdin, Stdout};
 
-// A proved loop has to end: it counts its turns down, from a number that no run uses up.
+// A proved loop has to end: this one has a number of turns that no run uses up.
 fn run(
     stdin: Stdin,
     stdout: Stdout,
@@ -17,31 +17,21 @@ fn run(
     mapping: &mut [u64],
     input: &mut [u8],
     out: &mut [u8],
-)
+) -> io::Result<()>
     requires { Grown g.old }
 {
     let mut filled = 0;
-    let mut turns = u64::MAX;
-    while 0 < turns {
-        turns -= 1;
-        let state = turn(stdin, stdout, g, mapping, input, filled, out);
-        match state {
+    for _ in 0..u64::MAX {
+        match turn(stdin, stdout, g, mapping, input, filled, out)? {
             State::Reading(left) => {
                 filled = left;
             }
             State::Ended(left) => {
-                finish(stdout, g, mapping, &input[0..left], out);
-                return;
-            }
-            State::Over => {
-                finish(stdout, g, mapping, &input[0..0], out);
-                return;
-            }
-            State::Failed => {
-                return;
+                return finish(stdout, g, mapping, &input[..left], out);
             }
         }
     }
+    Ok(())
 }
 
 // The longest record has 65,538 bytes: a full buffer holds a whole one.
@@ -50,12 +40,15 @@ fn main(rt: HostRuntime) {
     let mut mapping = [0u64; NODES];
     let mut input = [0u8; 131072];
     let mut out = [0u8; 65536];
-    run(
+
+    // A write that fails ends the run: there is nobody to tell.
+    let _is_written = run(
         rt.stdin(),
         rt.stdout(),
         &mut g,
         &mut mapping,
         &mut input,
         &mut out,
-    );
+    )
+    .is_ok();
 }

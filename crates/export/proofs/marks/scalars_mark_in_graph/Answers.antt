@@ -1,8 +1,8 @@
-use Rattle.export.proofs.Numbers.{number_mark}
-use mathlib.Core.Path.{ap, ◌∙◌}
-use Rattle.mark.specs.Mark.{mark_number, Marking}
+use Rattle.mark.proofs.Facts.{regions_facts}
 use Rattle.export.proofs.marks.scalars_mark_in_graph.Goals as goal
 
-pub returns : goal.returns
-returns c =
-    (c.number.ensures ∙ number_mark c.mark_in_graph.result ∙ ap (λ (r : Marking). mark_number r.answer) c.mark_in_graph.ensures, ap (λ (r : Marking). r.marks) c.mark_in_graph.ensures)
+pub unwrap-graph-requires : goal.unwrap-graph-requires
+unwrap-graph-requires c = c.as_array.ensures.variant.1 (regions_facts _ _ c.requires).0.length
+
+pub unwrap-marks-requires : goal.unwrap-marks-requires
+unwrap-marks-requires c = c.as_mut_array.ensures.variant.1 (regions_facts _ _ c.requires).1.length

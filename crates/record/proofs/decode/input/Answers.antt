@@ -1,10 +1,15 @@
 -- `record::decode::input` meets its contract: a number is read, and the rest is handed on. Assumes nothing.
-use borrow.Author.Tests.{le-leb, lt-leb}
-use Rattle.record.proofs.Parts.{part_from}
+use Prim.Native.Nat.{◌≤◌}
+use native.Mathlib.Omega.{arith}
+use lib.ListN.{length, take}
+use lib.Seq.{length-take-le}
+use borrow.Author.Tests.{le-leb}
+use Rattle.record.proofs.Little.{little_8}
 use Rattle.record.proofs.decode.input.Goals as goal
 
-pub returns-then-body-lt8 : goal.returns-then-body-lt8
-returns-then-body-lt8 c = rw (lt-leb _ _ c.if-body-lt8.true)
-
 pub returns : goal.returns
-returns c = rw (c.input_type.ensures, part_from, le-leb _ _ c.if-body-lt8.false, c.number_of-number.ensures)
+returns c =
+    let bs = c.args.body.now in
+    let p = c.in_ok-number.ensures.cases in
+    let l : 8 ≤ length bs = omega arith in
+    rw (c.input_type.ensures, p.1, c.from_le_bytes.ensures, p.0, little_8 (take 8 bs) (length-take-le 8 bs l), le-leb 8 (length bs) l)

@@ -8,14 +8,14 @@ pub returns-then-tag-eq-RETAIN : goal.returns-then-tag-eq-RETAIN
 unfolding done_by
 returns-then-tag-eq-RETAIN c = rw (eq-eqb _ _ c.if-tag-eq-RETAIN.true) (kept_step c.args.line.now _ c.retain_listed-retained.ensures (c.put_retained.ensures.value, c.put_retained.ensures.line_after))
 
-pub returns-in-Some : goal.returns-in-Some
+pub returns-in_default : goal.returns-in_default
 unfolding done_by
-returns-in-Some c =
-    rw (ne_eqb _ _ c.if-tag-eq-RETAIN.false, ← c.request_in-named.ensures, c.in-Some.is)
-    (answered_step c.args.line.now c.args.mapping.now _ c.call_in_graph-answer.ensures (c.put_answer.ensures.value, c.put_answer.ensures.line_after))
-
-pub returns-in-None : goal.returns-in-None
-unfolding done_by
-returns-in-None c =
-    rw (ne_eqb _ _ c.if-tag-eq-RETAIN.false, ← c.request_in-named.ensures, c.in-None.is)
+returns-in_default c =
+    rw (ne_eqb _ _ c.if-tag-eq-RETAIN.false, ← c.request_in.ensures, c.in_default.is)
     (bad_step c.args.line.now c.args.g.now c.args.mapping.now (c.put_bad.ensures.value, c.put_bad.ensures.line_after))
+
+pub returns : goal.returns
+unfolding done_by
+returns c =
+    rw (ne_eqb _ _ c.if-tag-eq-RETAIN.false, ← c.request_in.ensures, c.in-Some.is)
+    (answered_step c.args.line.now c.args.mapping.now _ c.call_in_graph-answer.ensures (c.put_answer.ensures.value, c.put_answer.ensures.line_after))

@@ -4,8 +4,11 @@ use mathlib.Core.Path.{◌≡◌, sym, ap, subst}
 use Prim.Native.Nat.{ℕ, ◌≤◌}
 use native.Mathlib.Omega.{arith}
 use lib.ListN.{length}
+use Rattle.std.specs.Prelude.{Option, None, Some}
+use Rattle.record.specs.declared.perform.Step.{Step}
+use Rattle.record.specs.declared.perform.Step.TheVariants as step
 use Rattle.record.specs.Record.{Bytes}
-use Rattle.record.specs.Perform.{Effect, goes_on, ends, no_room, left, effect_in_graph, record_in_graph}
+use Rattle.record.specs.Perform.{Effect, progress_of, left, effect_in_graph, record_in_graph}
 use Rattle.record.proofs.Within.{went_on, ended, had_no_room}
 use Rattle.meaning.specs.Program.{Grown}
 use Rattle.meaning.proofs.Program.{grown-is_graph, grown-effect}
@@ -16,39 +19,38 @@ module _ (g m bytes line h w after : List ℕ) (same : length after ≡ length l
   abbrev Leaves : ℕ → Type 0
   Leaves n = (n ≤ length line) × Grown h
 
-  on-leaves : (n : ℕ) → left (goes_on n) h w after ≡ record_in_graph g m bytes line → Leaves n
+  abbrev Written : Option Step → Type 0
+  Written (Some (step.Line n)) = Leaves n
+  Written (Some (step.Last n)) = Leaves n
+  Written None = Leaves 0
+
+  grown_by : (e : Effect) → effect_in_graph g m bytes ≡ e → Grown e.graph
+  grown_by e q = subst Grown (ap (λ (e : Effect). e.graph) q) (grown-effect g m bytes are grown)
+
+  leaves : (o : Option Step) → left (progress_of o) h w after ≡ record_in_graph g m bytes line → Written o
   unfolding record_in_graph
-  on-leaves n q =
+  leaves (Some (step.Line n)) q =
       let l = went_on g m line h w after (effect_in_graph g m bytes) same n q in
-      (l.within, subst Grown (ap (λ (e : Effect). e.graph) l.effect) (grown-effect g m bytes are grown))
-
-  last-leaves : (n : ℕ) → left (ends n) h w after ≡ record_in_graph g m bytes line → Leaves n
-  unfolding record_in_graph
-  last-leaves n q =
+      (l.within, grown_by _ l.effect)
+  leaves (Some (step.Last n)) q =
       let l = ended g m line h w after (effect_in_graph g m bytes) same n q in
-      (l.within, subst Grown (ap (λ (e : Effect). e.graph) l.effect) (grown-effect g m bytes are grown))
+      (l.within, grown_by _ l.effect)
+  leaves None q = (omega arith, subst Grown (sym (had_no_room g m line h w after (effect_in_graph g m bytes) same q).graph) grown)
 
-  full-leaves : left no_room h w after ≡ record_in_graph g m bytes line → Leaves 0
-  unfolding record_in_graph
-  full-leaves q = (omega arith, subst Grown (sym (had_no_room g m line h w after (effect_in_graph g m bytes) same q).graph) grown)
+pub perform_in_graph-requires : goal.perform_in_graph-requires
+perform_in_graph-requires c = grown-is_graph c.requires
 
-pub perform_in_graph-step-requires : goal.perform_in_graph-step-requires
-perform_in_graph-step-requires c = grown-is_graph c.requires
-
-pub returns-in-Line : goal.returns-in-Line
-returns-in-Line c =
-    let l = on-leaves _ _ _ _ _ _ _ c.out-1.given (λ i. omega (arith, c.shared_slice_known-1.given i)) c.requires _
-    (rw c.in-Line.is at c.perform_in_graph-step.ensures) in
+pub returns-in-Some-Line : goal.returns-in-Some-Line
+returns-in-Some-Line c =
+    let l = leaves _ _ _ _ _ _ _ c.perform_in_graph.auto.line (λ i. omega (arith, c.type_inv.rest i)) c.requires (Some (step.Line c.in-Some-Line.n)) (rw c.in-Some-Line.field-0-is at c.in-Some-Line.ensures) in
     record { upper_bound = l.0; grown = l.1 }
 
-pub returns-in-Last : goal.returns-in-Last
-returns-in-Last c =
-    let l = last-leaves _ _ _ _ _ _ _ c.out-1.given (λ i. omega (arith, c.shared_slice_known-1.given i)) c.requires _
-    (rw c.in-Last.is at c.perform_in_graph-step.ensures) in
+pub returns-in-Some-Last : goal.returns-in-Some-Last
+returns-in-Some-Last c =
+    let l = leaves _ _ _ _ _ _ _ c.perform_in_graph.auto.line (λ i. omega (arith, c.type_inv.rest i)) c.requires (Some (step.Last c.in-Some-Last.n)) (rw c.in-Some-Last.field-0-is at c.in-Some-Last.ensures) in
     record { upper_bound = l.0; grown = l.1 }
 
-pub returns-in-NoRoom : goal.returns-in-NoRoom
-returns-in-NoRoom c =
-    let l = full-leaves _ _ _ _ _ _ _ c.out-1.given (λ i. omega (arith, c.shared_slice_known-1.given i)) c.requires
-    (rw c.in-NoRoom.is at c.perform_in_graph-step.ensures) in
+pub returns-in-None : goal.returns-in-None
+returns-in-None c =
+    let l = leaves _ _ _ _ _ _ _ c.perform_in_graph.auto.line (λ i. omega (arith, c.type_inv.rest i)) c.requires None c.in-None.ensures in
     record { upper_bound = l.0; grown = l.1 }

@@ -6,10 +6,9 @@ use lib.ListN.{length}
 use Rattle.scalars.specs.Blocks.{Through}
 use Rattle.scalars.proofs.blocks.run_records.Given as goal
 
-abbrev pub invariant-loop-k : goal.invariant-loop-k
-invariant-loop-k l =
-    Through l.initial.g l.initial.mapping l.input l.initial.out l.read l.written false l.g l.mapping l.out
-    × (length l.g ≡ length l.initial.g) × (length l.mapping ≡ length l.initial.mapping) × (length l.out ≡ length l.initial.out)
+abbrev pub invariant-loop-one : goal.invariant-loop-one
+invariant-loop-one l =
+    Through l.initial.g l.initial.mapping l.input l.initial.out l.read l.written false l.g l.mapping l.out × (length l.out ≡ length l.initial.out)
 
-abbrev pub decreases-loop-k : goal.decreases-loop-k
-decreases-loop-k l = length l.input - l.read
+abbrev pub decreases-loop-one : goal.decreases-loop-one
+decreases-loop-one l = length l.input - l.read

@@ -1,7 +1,0 @@
-use Rattle.native.proofs.Numbers.{number_answer}
-use Rattle.native.specs.Call.{answer_number}
-use mathlib.Core.Path.{ap, ◌∙◌}
-use Rattle.export.proofs.reading.scalars_resolve_in_graph.Goals as goal
-
-pub returns : goal.returns
-returns c = c.number.ensures ∙ number_answer c.resolve_in_graph.result ∙ ap answer_number c.resolve_in_graph.ensures

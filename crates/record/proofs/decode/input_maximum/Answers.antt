@@ -1,9 +1,0 @@
--- `record::decode::input_maximum` meets its contract: the last number is read. Assumes nothing.
-use borrow.Author.Tests.{eq-eqb, ne_eqb}
-use Rattle.record.proofs.decode.input_maximum.Goals as goal
-
-pub returns-then-rest-ne16 : goal.returns-then-rest-ne16
-returns-then-rest-ne16 c = rw (ne_eqb _ _ c.if-rest-ne16.true)
-
-pub returns : goal.returns
-returns c = rw (eq-eqb _ _ c.if-rest-ne16.false, c.range_by_words-range.ensures, c.word_of.ensures)
