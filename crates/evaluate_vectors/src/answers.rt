@@ -3,7 +3,6 @@ use crate::operators::{Operator, operator_of};
 use crate::rules::{function_answer, rule_answer};
 use answer::Refusal;
 use evaluate::one_operand::evaluate_unary;
-use evaluate::pattern::from_bool;
 use evaluate::two_operands::evaluate_binary;
 use range::{Range, ScalarType};
 use word::Word;
@@ -24,7 +23,7 @@ pub(crate) enum Answer {
 // 1 for true and 0 for false.
 impl From<bool> for Answer {
     fn from(truth: bool) -> Answer {
-        Answer::Pattern(Some(from_bool(truth)))
+        Answer::Pattern(Some(Word::from(truth)))
     }
 }
 

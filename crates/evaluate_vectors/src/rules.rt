@@ -73,7 +73,7 @@ pub(crate) fn function_answer(function: u64, ty: ScalarType, a: Range, b: Range)
         1 => Some(Answer::Interval(type_range(ty))),
         2 => Some(Answer::Interval(Some(Range::singleton(a.min)))),
         3 => Some(a.contains(b.min).into()),
-        4 => Some(a.eq(b).into()),
+        4 => Some((a == b).into()),
         _ => None,
     }
 }

@@ -8,9 +8,8 @@ use evaluate::{Binary, Unary};
 use graph::{EffectId, InputId, NodeId};
 use range::ScalarType;
 use request::Request;
-use request::codes::{
-    binary_by_code, range_by_words, truth_by_number, type_by_code, unary_by_code,
-};
+use graph::read::range_of;
+use request::codes::{binary_by_code, truth_by_number, type_by_code, unary_by_code};
 use word::Word;
 
 fn constant(body: &[u8]) -> Option<Request>
@@ -66,7 +65,7 @@ fn input_maximum(number: u64, ty: ScalarType, min: Word, rest: &[u8]) -> Option<
     ensures { named_of result ≡ input_maximum number ty (val min) rest.now }
 {
     let max = rest.as_array()?;
-    let range = range_by_words(1, min, word_of(max));
+    let range = range_of(1, min, word_of(max));
     Some(Request::Input(InputId(number), range, ty))
 }
 

@@ -35,12 +35,12 @@ fn tell(g: &mut Region, mapping: &mut [u64; NODES], bytes: &[u8], line: &mut [u8
     ensures { result.len ≤ length line.old }
 {
     match perform(g, mapping, bytes, line) {
-        Step::Line(len) => Told { len, goes_on: true },
-        Step::Last(len) => Told {
+        Some(Step::Line(len)) => Told { len, goes_on: true },
+        Some(Step::Last(len)) => Told {
             len,
             goes_on: false,
         },
-        Step::NoRoom => Told {
+        None => Told {
             len: 0,
             goes_on: false,
         },

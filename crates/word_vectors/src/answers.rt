@@ -33,10 +33,10 @@ fn word_arithmetic(operation: u64, a: Word, b: Word) -> Option<Answer> {
 
 fn word_bits(operation: u64, a: Word, b: Word) -> Option<Answer> {
     Some(match operation {
-        0 => Some(a.bitand(b)),
-        1 => Some(a.bitor(b)),
-        2 => Some(a.bitxor(b)),
-        3 => Some(a.not()),
+        0 => Some(a & b),
+        1 => Some(a | b),
+        2 => Some(a ^ b),
+        3 => Some(!a),
         4 => count(a.leading_zeros() as u64),
         5 => count(a.trailing_zeros() as u64),
         6 => count(a.is_power_of_two() as u64),
@@ -60,9 +60,9 @@ fn word_shift(operation: u64, a: Word, b: Word) -> Option<Answer> {
 
 fn word_order(operation: u64, a: Word, b: Word) -> Option<Answer> {
     Some(match operation {
-        0 => count(a.eq(b) as u64),
-        1 => count(a.lt(b) as u64),
-        2 => count(a.le(b) as u64),
+        0 => count((a == b) as u64),
+        1 => count((a < b) as u64),
+        2 => count((a <= b) as u64),
         3 => Some(a.min(b)),
         4 => Some(a.max(b)),
         _ => return None,
@@ -98,10 +98,10 @@ fn signed_checked(operation: u64, a: Signed, b: Signed) -> Option<Answer> {
 
 fn signed_bits(operation: u64, a: Signed, b: Signed) -> Option<Answer> {
     let bits = match operation {
-        0 => a.bitand(b),
-        1 => a.bitor(b),
-        2 => a.bitxor(b),
-        3 => a.not(),
+        0 => a & b,
+        1 => a | b,
+        2 => a ^ b,
+        3 => !a,
         _ => return None,
     };
     Some(Some(bits.as_word()))
@@ -109,9 +109,9 @@ fn signed_bits(operation: u64, a: Signed, b: Signed) -> Option<Answer> {
 
 fn signed_order(operation: u64, a: Signed, b: Signed) -> Option<Answer> {
     Some(match operation {
-        0 => count(a.eq(b) as u64),
-        1 => count(a.lt(b) as u64),
-        2 => count(a.le(b) as u64),
+        0 => count((a == b) as u64),
+        1 => count((a < b) as u64),
+        2 => count((a <= b) as u64),
         3 => Some(a.min(b).as_word()),
         4 => Some(a.max(b).as_word()),
         5 => count(a.is_negative() as u64),

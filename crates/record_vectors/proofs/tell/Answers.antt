@@ -3,18 +3,18 @@ use Rattle.record.specs.Perform.{effect_call, record_call}
 use Rattle.record.proofs.Within.{went_on, ended}
 use Rattle.record_vectors.proofs.tell.Goals as goal
 
-pub returns-in-Line : goal.returns-in-Line
+pub returns-in-Some-Line : goal.returns-in-Some-Line
 unfolding record_call
-returns-in-Line c =
+returns-in-Some-Line c =
     let call = c.perform in
     (went_on c.args.g.now c.args.mapping.now c.args.line.now call.new.g call.new.mapping call.new.line
     (effect_call c.args.g.now c.args.mapping.now c.args.bytes.now) call.auto.line
-    c.in-Line.len (rw c.in-Line.is at call.ensures)).within
+    c.in-Some-Line.len c.in-Some-Line.ensures).within
 
-pub returns-in-Last : goal.returns-in-Last
+pub returns-in-Some-Last : goal.returns-in-Some-Last
 unfolding record_call
-returns-in-Last c =
+returns-in-Some-Last c =
     let call = c.perform in
     (ended c.args.g.now c.args.mapping.now c.args.line.now call.new.g call.new.mapping call.new.line
     (effect_call c.args.g.now c.args.mapping.now c.args.bytes.now) call.auto.line
-    c.in-Last.len (rw c.in-Last.is at call.ensures)).within
+    c.in-Some-Last.len c.in-Some-Last.ensures).within
