@@ -13,10 +13,10 @@ use crate::requests::{
     Numbers, binary_request, concat_request, constant_request, request_of, slice_request,
     unary_request,
 };
+use native::Numbered;
 use native::perform::{call, call_in_graph};
 use request::Request;
 use word::Word;
-use native::Numbered;
 
 fn answered_in_graph(g: &mut [u64], numbers: Numbers) -> u64
     requires { is_graph g.old ≡ true }

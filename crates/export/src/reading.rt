@@ -256,7 +256,13 @@ fn unary_evaluated(operator: u64, parameter: u64, value: Word) -> Result<Option<
 }
 
 #[tactic(auto, unfolding(crate::specs::Reading::binary_evaluated))]
-fn binary_evaluated(operator: u64, code: u64, width: u64, left: Word, right: Word) -> Result<Option<Word>, Refusal>
+fn binary_evaluated(
+    operator: u64,
+    code: u64,
+    width: u64,
+    left: Word,
+    right: Word,
+) -> Result<Option<Word>, Refusal>
     ensures { outcome_of result ≡ binary_evaluated operator code width (val left) (val right) }
 {
     if WIDEST_WORD < width {

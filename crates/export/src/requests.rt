@@ -6,12 +6,12 @@ ghost use Rattle.graph.specs.Node.{pair, range_of};
 ghost use Rattle.request.specs.Request.{request_of, unsigned_range};
 ghost use Rattle.export.specs.Numbers.{constant_by_code, input_by_code, effect_by_code, unary_by_codes, binary_by_codes, slice_by_numbers, concat_by_numbers, guard_by_numbers, asked_by};
 
+use graph::read::range_of;
 use graph::{EffectId, InputId, NodeId};
+use range::Range;
 use request::Request;
 use request::codes::{binary_by_code, clamped_width, truth_by_number, type_by_code, unary_by_code};
 use word::Word;
-use range::Range;
-use graph::read::range_of;
 
 // The numbers of a call. A type is its code and width, a 128-bit number two, low half first.
 #[derive(Clone, Copy)]
@@ -135,7 +135,13 @@ fn guard_request(condition: u64, expected: u64) -> Request
 }
 
 #[tactic(auto, unfolding(word::specs::Value::val))]
-fn range_of_ends(flag: u64, min_low: u64, min_high: u64, max_low: u64, max_high: u64) -> Option<Range>
+fn range_of_ends(
+    flag: u64,
+    min_low: u64,
+    min_high: u64,
+    max_low: u64,
+    max_high: u64,
+) -> Option<Range>
     ensures { interval_of result ≡ range_of flag (pair min_low min_high) (pair max_low max_high) }
 {
     let min = Word {

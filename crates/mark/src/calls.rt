@@ -5,13 +5,13 @@ ghost use Rattle.native.specs.Call.{answer_of};
 ghost use Rattle.mark.specs.WellFormed.{is_marked};
 ghost use Rattle.mark.specs.Mark.{marking_of, marking, mark_in_graph, mark_call, returning, return_in_graph, return_call};
 
+use crate::MarkId;
 use crate::layout::{MOST, Marks, standing};
 use crate::moving::{go_back, leave_standing, set_mark};
 use crate::well_formed::is_marked;
-use crate::MarkId;
 use answer::Refusal;
-use native::Answer;
 use graph::layout::Region;
+use native::Answer;
 
 pub fn mark_in_graph(g: &Region, m: &mut Marks) -> Result<MarkId, Refusal>
     requires { is_marked g.now m.old ≡ true }

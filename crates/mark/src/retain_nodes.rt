@@ -6,12 +6,12 @@ ghost use Rattle.mark.specs.Layout.{MARKS};
 ghost use Rattle.mark.specs.WellFormed.{is_marked};
 ghost use Rattle.mark.specs.Mark.{unmarked, retaining, retain_in_graph, retain_call};
 
+use crate::layout::Marks;
 use crate::moving::leave_standing;
 use crate::well_formed::is_marked;
 use answer::Refusal;
-use native::retain_nodes::retain_unmarked_in_graph;
 use graph::layout::Region;
-use crate::layout::Marks;
+use native::retain_nodes::retain_unmarked_in_graph;
 
 // After a retain that is not refused no mark stands.
 fn drop_marks(m: &mut Marks, retained: Result<u64, Refusal>)
@@ -23,7 +23,12 @@ fn drop_marks(m: &mut Marks, retained: Result<u64, Refusal>)
     }
 }
 
-pub fn retain_in_graph(g: &mut Region, m: &mut Marks, keep: &[u8], mapping: &mut [u64]) -> Result<u64, Refusal>
+pub fn retain_in_graph(
+    g: &mut Region,
+    m: &mut Marks,
+    keep: &[u8],
+    mapping: &mut [u64],
+) -> Result<u64, Refusal>
     requires { is_marked g.old m.old ≡ true }
     ensures { retaining (retention (outcome_of result) g.new mapping.new) m.new ≡ retain_in_graph g.old m.old keep.now mapping.old }
 {
@@ -32,7 +37,12 @@ pub fn retain_in_graph(g: &mut Region, m: &mut Marks, keep: &[u8], mapping: &mut
     retained
 }
 
-pub fn retain(g: &mut [u64], m: &mut [u64], keep: &[u8], mapping: &mut [u64]) -> Result<u64, Refusal>
+pub fn retain(
+    g: &mut [u64],
+    m: &mut [u64],
+    keep: &[u8],
+    mapping: &mut [u64],
+) -> Result<u64, Refusal>
     ensures { retaining (retention (outcome_of result) g.new mapping.new) m.new ≡ retain_call g.old m.old keep.now mapping.old }
 {
     if !is_marked(g, m) {

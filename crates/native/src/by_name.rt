@@ -9,13 +9,13 @@ ghost use Rattle.native.specs.Perform.{request_in_graph, request_call};
 
 use crate::Answer;
 use crate::perform::{call, call_in_graph};
+use answer::Refusal;
 use evaluate::{Binary, Unary};
+use graph::layout::Region;
 use graph::{EffectId, InputId, NodeId};
 use range::{Range, ScalarType};
 use request::Request;
 use word::Word;
-use answer::Refusal;
-use graph::layout::Region;
 
 pub fn constant_in_graph(g: &mut Region, ty: ScalarType, value: Word) -> Result<Answer, Refusal>
     requires { is_graph g.old ≡ true }
@@ -30,14 +30,24 @@ pub fn constant(g: &mut [u64], ty: ScalarType, value: Word) -> Result<Answer, Re
     call(g, Request::Constant(value, ty))
 }
 
-pub fn input_in_graph(g: &mut Region, id: InputId, ty: ScalarType, range: Option<Range>) -> Result<Answer, Refusal>
+pub fn input_in_graph(
+    g: &mut Region,
+    id: InputId,
+    ty: ScalarType,
+    range: Option<Range>,
+) -> Result<Answer, Refusal>
     requires { is_graph g.old ≡ true }
     ensures { called (answer_of result) g.new ≡ request_in_graph g.old (asked.input id.0 ty (interval_of range)) }
 {
     call_in_graph(g, Request::Input(id, range, ty))
 }
 
-pub fn input(g: &mut [u64], id: InputId, ty: ScalarType, range: Option<Range>) -> Result<Answer, Refusal>
+pub fn input(
+    g: &mut [u64],
+    id: InputId,
+    ty: ScalarType,
+    range: Option<Range>,
+) -> Result<Answer, Refusal>
     ensures { called (answer_of result) g.new ≡ request_call g.old (asked.input id.0 ty (interval_of range)) }
 {
     call(g, Request::Input(id, range, ty))
@@ -56,7 +66,12 @@ pub fn effect(g: &mut [u64], id: EffectId, ty: ScalarType) -> Result<Answer, Ref
     call(g, Request::Effect(id, ty))
 }
 
-pub fn unary_in_graph(g: &mut Region, ty: ScalarType, op: Unary, value: NodeId) -> Result<Answer, Refusal>
+pub fn unary_in_graph(
+    g: &mut Region,
+    ty: ScalarType,
+    op: Unary,
+    value: NodeId,
+) -> Result<Answer, Refusal>
     requires { is_graph g.old ≡ true }
     ensures { called (answer_of result) g.new ≡ request_in_graph g.old (asked.unary ty op value.0) }
 {
@@ -82,13 +97,24 @@ pub fn binary_in_graph(
     call_in_graph(g, Request::Binary(left, right, ty, op))
 }
 
-pub fn binary(g: &mut [u64], ty: ScalarType, op: Binary, left: NodeId, right: NodeId) -> Result<Answer, Refusal>
+pub fn binary(
+    g: &mut [u64],
+    ty: ScalarType,
+    op: Binary,
+    left: NodeId,
+    right: NodeId,
+) -> Result<Answer, Refusal>
     ensures { called (answer_of result) g.new ≡ request_call g.old (asked.binary ty op left.0 right.0) }
 {
     call(g, Request::Binary(left, right, ty, op))
 }
 
-pub fn slice_in_graph(g: &mut Region, value: NodeId, offset: u16, width: u16) -> Result<Answer, Refusal>
+pub fn slice_in_graph(
+    g: &mut Region,
+    value: NodeId,
+    offset: u16,
+    width: u16,
+) -> Result<Answer, Refusal>
     requires { is_graph g.old ≡ true }
     ensures { called (answer_of result) g.new ≡ request_in_graph g.old (asked.slice value.0 offset width) }
 {
@@ -114,26 +140,46 @@ pub fn concat_in_graph(
     call_in_graph(g, Request::Concat(high, low, low_width, width))
 }
 
-pub fn concat(g: &mut [u64], high: NodeId, low: NodeId, low_width: u16, width: u16) -> Result<Answer, Refusal>
+pub fn concat(
+    g: &mut [u64],
+    high: NodeId,
+    low: NodeId,
+    low_width: u16,
+    width: u16,
+) -> Result<Answer, Refusal>
     ensures { called (answer_of result) g.new ≡ request_call g.old (asked.concat high.0 low.0 low_width width) }
 {
     call(g, Request::Concat(high, low, low_width, width))
 }
 
-pub fn unsigned_range_in_graph(g: &mut Region, value: NodeId, low: Word, high: Word) -> Result<Answer, Refusal>
+pub fn unsigned_range_in_graph(
+    g: &mut Region,
+    value: NodeId,
+    low: Word,
+    high: Word,
+) -> Result<Answer, Refusal>
     requires { is_graph g.old ≡ true }
     ensures { called (answer_of result) g.new ≡ request_in_graph g.old (asked.unsigned_range value.0 (val low) (val high)) }
 {
     call_in_graph(g, Request::UnsignedRange(value, low, high))
 }
 
-pub fn unsigned_range(g: &mut [u64], value: NodeId, low: Word, high: Word) -> Result<Answer, Refusal>
+pub fn unsigned_range(
+    g: &mut [u64],
+    value: NodeId,
+    low: Word,
+    high: Word,
+) -> Result<Answer, Refusal>
     ensures { called (answer_of result) g.new ≡ request_call g.old (asked.unsigned_range value.0 (val low) (val high)) }
 {
     call(g, Request::UnsignedRange(value, low, high))
 }
 
-pub fn assume_guard_in_graph(g: &mut Region, condition: NodeId, expected: bool) -> Result<Answer, Refusal>
+pub fn assume_guard_in_graph(
+    g: &mut Region,
+    condition: NodeId,
+    expected: bool,
+) -> Result<Answer, Refusal>
     requires { is_graph g.old ≡ true }
     ensures { called (answer_of result) g.new ≡ request_in_graph g.old (asked.guard condition.0 expected) }
 {

@@ -24,6 +24,7 @@ use evaluate::{Binary, Unary};
 use fold::operator::{is_equality, is_folded_shift};
 use graph::NodeId;
 use graph::insert::insert;
+use graph::layout::Region;
 use graph::read::{literal, resolve};
 use plan::Plan;
 use plan::one_operand::{has_modular_plan, unary_plan};
@@ -31,7 +32,6 @@ use plan_binary::BinaryNode;
 use plan_binary::binary::binary_plan;
 use plan_slice::slice::slice_plan;
 use range::ScalarType;
-use graph::layout::Region;
 
 // Does unary decide by its plan alone? The operand is no constant, and no truncation is pushed through it.
 fn is_unary_open(g: &Region, ty: ScalarType, op: Unary, value: NodeId) -> bool
@@ -111,7 +111,13 @@ fn is_slice_open(g: &Region, value: NodeId, offset: u64, width: u16) -> bool
     literal(g, value).is_none() && !(offset == 0 && has_modular_plan(g, value, width))
 }
 
-pub(crate) fn slice(g: &mut Region, value: NodeId, offset: u64, width: u16, full: Refusal) -> Result<Answer, Refusal>
+pub(crate) fn slice(
+    g: &mut Region,
+    value: NodeId,
+    offset: u64,
+    width: u16,
+    full: Refusal,
+) -> Result<Answer, Refusal>
     ensures { called (answer_of result) g.new ≡ builder_out full (build (call.slice value.0 offset width) UNITS g.old) }
 {
     let id = resolve(g, value);

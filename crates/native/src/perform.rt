@@ -43,7 +43,12 @@ pub(crate) fn settle(built: Built, full: Refusal) -> Result<Answer, Refusal>
 }
 
 // A condition is assumed; without room for a node its aliases and nodes are taken back. Most guards narrow nothing, and need nothing saved.
-fn assume_or_restore(g: &mut Region, condition: NodeId, expected: bool, full: Refusal) -> Result<Answer, Refusal>
+fn assume_or_restore(
+    g: &mut Region,
+    condition: NodeId,
+    expected: bool,
+    full: Refusal,
+) -> Result<Answer, Refusal>
     requires { is_graph g.old ≡ true }
     ensures { called (answer_of result) g.new ≡ guard_out full g.old (assumed_guard g.old condition.0 expected).outcome (assumed_guard g.old condition.0 expected).words }
 {

@@ -61,7 +61,11 @@ pub fn resolve(g: &[u64], id: NodeId) -> Result<Answer, Refusal>
 
 // The guard of a condition.
 #[tactic(auto, unfolding(crate::specs::Guard::guard_in_graph), using(crate::proofs::Parts::guard_answered))]
-pub fn guard_in_graph(g: &Region, condition: NodeId, expected: bool) -> Result<Option<Guard>, Refusal>
+pub fn guard_in_graph(
+    g: &Region,
+    condition: NodeId,
+    expected: bool,
+) -> Result<Option<Guard>, Refusal>
     requires { is_graph g.now ≡ true }
     ensures { reading_of result ≡ guard_in_graph g.now condition.0 expected }
 {

@@ -5,11 +5,15 @@ ghost use Rattle.graph.specs.WellFormed.{is_graph};
 ghost use Rattle.native.specs.Retain.{outcome_of, retention, retain_in_graph, retain_call};
 
 use answer::Refusal;
+use graph::layout::Region;
 use graph::well_formed::is_graph;
 use retain::keep_list::is_keep_list;
-use graph::layout::Region;
 
-pub fn retain_unmarked_in_graph(g: &mut Region, keep: &[u8], mapping: &mut [u64]) -> Result<u64, Refusal>
+pub fn retain_unmarked_in_graph(
+    g: &mut Region,
+    keep: &[u8],
+    mapping: &mut [u64],
+) -> Result<u64, Refusal>
     requires { is_graph g.old ≡ true }
     ensures { retention (outcome_of result) g.new mapping.new ≡ retain_in_graph g.old keep.now mapping.old }
 {

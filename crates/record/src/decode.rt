@@ -5,10 +5,10 @@ ghost use Rattle.record.specs.Record.{named_of, constant_body, constant_value, i
 
 use crate::fields::{id_of, word_of};
 use evaluate::{Binary, Unary};
+use graph::read::range_of;
 use graph::{EffectId, InputId, NodeId};
 use range::ScalarType;
 use request::Request;
-use graph::read::range_of;
 use request::codes::{binary_by_code, truth_by_number, type_by_code, unary_by_code};
 use word::Word;
 

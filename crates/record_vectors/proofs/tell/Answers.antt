@@ -9,7 +9,7 @@ returns-in-Some-Line c =
     let call = c.perform in
     (went_on c.args.g.now c.args.mapping.now c.args.line.now call.new.g call.new.mapping call.new.line
     (effect_call c.args.g.now c.args.mapping.now c.args.bytes.now) call.auto.line
-    c.in-Some-Line.len c.in-Some-Line.ensures).within
+    c.in-Some-Line.len (rw c.in-Some-Line.field-0-is at c.in-Some-Line.ensures)).within
 
 pub returns-in-Some-Last : goal.returns-in-Some-Last
 unfolding record_call
@@ -17,4 +17,4 @@ returns-in-Some-Last c =
     let call = c.perform in
     (ended c.args.g.now c.args.mapping.now c.args.line.now call.new.g call.new.mapping call.new.line
     (effect_call c.args.g.now c.args.mapping.now c.args.bytes.now) call.auto.line
-    c.in-Some-Last.len c.in-Some-Last.ensures).within
+    c.in-Some-Last.len (rw c.in-Some-Last.field-0-is at c.in-Some-Last.ensures)).within
