@@ -1,6 +1,6 @@
 -- binary: the masked comparison, the stored node, and all its decisions in their order. Assumes nothing.
 use mathlib.Core.Path.{◌≡◌, refl, sym, ap, ◌∙◌, subst}
-use mathlib.Core.Bool.{Bool, true, not, ◌&&◌}
+use mathlib.Core.Bool.{true, not, ◌&&◌}
 use mathlib.Core.List.{List}
 use mathlib.Core.Logic.{⊎_elim}
 use Rattle.std.specs.Prelude.{Option, None, Some}

@@ -1,6 +1,6 @@
 -- The range of a new node holds its value, if its operands' ranges hold theirs. Assumes nothing.
 use mathlib.Core.Path.{◌≡◌, refl, sym, ap, ◌∙◌, subst}
-use mathlib.Core.Bool.{Bool, true, false, cond, false≢true, ◌&&◌}
+use mathlib.Core.Bool.{true, false, cond, false≢true, ◌&&◌}
 use mathlib.Core.List.{List, [], ◌∷◌}
 use mathlib.Core.Logic.{⊎_elim}
 use Rattle.std.specs.Prelude.{Option, None, Some}

@@ -1,6 +1,5 @@
 -- An answer as one number, by its parts and by what it stands for.
-use Rattle.std.specs.Prelude.{ℕ, ◌≡◌, Bool, Result, Ok, Err, refl}
-use Rattle.word.specs.Option.{from_bool}
+use Rattle.std.specs.Prelude.{ℕ, ◌≡◌, Result, Ok, Err, refl}
 use Rattle.answer.specs.declared.Refusal.{Refusal}
 use Rattle.native.specs.declared.Answer.{Answer}
 use Rattle.native.specs.declared.Answer.TheVariants as answer

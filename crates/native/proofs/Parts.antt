@@ -1,5 +1,5 @@
 -- What an answer stands for, by its parts.
-use Rattle.std.specs.Prelude.{◌≡◌, Option, Some, None, Result, Ok, Err, refl, is_err, true}
+use Rattle.std.specs.Prelude.{◌≡◌, Option, Some, None, Result, Ok, Err, refl, is_err}
 use Rattle.word.specs.declared.Word.{Word}
 use Rattle.word.specs.Value.{number_of}
 use Rattle.answer.specs.declared.Refusal.{Refusal}

@@ -1,9 +1,5 @@
-use mathlib.Core.Path.{◌∙◌}
-use Prim.Native.Nat.{ℕ, ◌+◌, ◌-◌}
+use Prim.Native.Nat.{◌+◌, ◌-◌}
 use native.Mathlib.Nat.{add-sub_cancel_left}
-use native.Mathlib.Omega.{arith}
-use borrow.Rule.Slice.PartMut.{same_len_mid}
-use lib.ListN.{set, length-set}
 use Rattle.graph.specs.Layout.{LIMIT}
 use Rattle.mark.specs.Layout.{mark_start}
 use Rattle.mark.proofs.Marks.{marked_by_lem}

@@ -1,8 +1,8 @@
-use mathlib.Core.Path.{sym, ap, ◌∙◌}
+use mathlib.Core.Path.{sym}
 use native.Mathlib.Omega.{arith}
 use Rattle.graph.proofs.Grown.{graph_facts}
 use Rattle.mark.proofs.Facts.{short_marks}
-use Rattle.mark.specs.WellFormed.{are_marks, is_marked}
+use Rattle.mark.specs.WellFormed.{is_marked}
 use Rattle.mark.proofs.well_formed.is_marked.Goals as goal
 
 pub returns-in_default : goal.returns-in_default

@@ -1,4 +1,3 @@
-use Rattle.graph.proofs.Grown.{graph_facts}
 use Rattle.native.specs.Perform.{worked, leaf_out, builder_out}
 use mathlib.Core.Path.{ap}
 use Rattle.native.proofs.perform.work.Goals as goal
