@@ -1,7 +1,7 @@
 // A retain. Of its line the number has the length of the keep list and, 16 bits up, the place of an element that the flag gives;
 // the bits of the two words are the other elements, and the width is the length of the mapping. The mapping stands past the region.
 use crate::lines::Call;
-use crate::region::{MAPPING, Words};
+use crate::region::{MAPPING, WORDS, Words};
 use answer::Refusal;
 use native::retain_nodes::retain_unmarked;
 
@@ -19,12 +19,15 @@ fn keep_of(call: Call) -> [u8; 256] {
     keep
 }
 
-// A length that is too large is malformed.
+// A length that is too large is malformed. A region that would reach into the mapping ends before it: either way it has a wrong length.
 pub(crate) fn retained(words: &mut Words, call: Call) -> Option<Result<u64, Refusal>> {
     let keep = keep_of(call);
     let (region, mapping) = words.split_at_mut(MAPPING);
     let kept = keep.get(..(call.number % 65536) as usize)?;
-    let region = region.get_mut(..call.len)?;
+    if WORDS < call.len {
+        return None;
+    }
+    let region = region.get_mut(..call.len.min(MAPPING))?;
     let mapping = mapping.get_mut(..call.width as usize)?;
     Some(retain_unmarked(region, kept, mapping))
 }
