@@ -45,6 +45,7 @@ fn apart(g: &[u64], at: usize, first: u64) -> u64
 }
 
 // Past nodes with another first field, sixteen at a time: the search from there on has the same answer. The last sixteen may reach past the end, not past the region.
+// A loop by hand: an iterator that ends within its step, `step_by` with `find_map` in it, is no plainer.
 fn pass_over(g: &Region, from: u64, end: u64, words: &[u64; SIZE]) -> u64
     requires { end ≤ LIMIT }
     ensures { (from ≤ result) × (lowest (same_key g.now words.now) result (end - result) ≡ lowest (same_key g.now words.now) from (end - from)) }
@@ -67,7 +68,7 @@ fn pass_over(g: &Region, from: u64, end: u64, words: &[u64; SIZE]) -> u64
     node
 }
 
-// The lowest node from `from` on, below the count, with this key.
+// The lowest node from `from` on, below the count, with this key. A loop by hand: how far it goes depends on the words there.
 fn find(g: &Region, from: u64, words: &[u64; SIZE]) -> Option<u64>
     ensures { result ≡ lowest (same_key g.now words.now) from (min (count_of g.now) LIMIT - from) }
 {

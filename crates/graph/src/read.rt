@@ -84,6 +84,8 @@ pub fn range_at(g: &Region, id: NodeId) -> Option<Range>
     range_of(word_at(g, n, RANGE), pair_at(g, n, MIN), pair_at(g, n, MAX))
 }
 
+// Inlined: a caller asks for one or two shapes, and an operation that is handed back lies in memory.
+#[inline(always)]
 pub fn operation_at(g: &Region, id: NodeId) -> Operation
     ensures { op_of result ≡ operation_at g.now id.0 }
 {
