@@ -2,7 +2,7 @@
 #![tactic(auto)]
 
 ghost use Rattle.std.specs.Io.KnownBytes.{Consumes};
-ghost use Rattle.std.specs.Prelude.{◌≡◌, ◌+◌, ◌<◌, ◌≤◌, IfSome, eqb, leb, ltb, length, take};
+ghost use Rattle.std.specs.Prelude.{[], ◌∷◌, ◌≡◌, ◌+◌, ◌<◌, ◌≤◌, IfSome, eqb, leb, ltb, length, take};
 ghost use Rattle.word.specs.Value.{val, number_of};
 ghost use Rattle.word.specs.Option.{only, provided};
 ghost use Rattle.text.specs.Text.{placed, end_of, placed_in};
@@ -105,7 +105,8 @@ pub fn read_full<R: Read>(reader: &mut R, block: &mut [u8]) -> usize
 // Puts the digits of a word and a line end into out from `at` on, and answers where they end.
 pub fn put_word_line(w: Word, out: &mut [u8], at: usize) -> usize
     requires { at + 33 ≤ length out.old }
-    ensures { result ≡ at + 33 }
+    ensures value { result ≡ at + 33 }
+    ensures out_after { out.new ≡ placed (placed out.old at (hex_digits 32 (val w))) (at + 32) (10 ∷ []) }
 {
     let end = put_word_in_room(w, out, at);
     put_text_in_room(b"\n", out, end)
