@@ -1,5 +1,5 @@
--- The numbers of the refusals.
-use Rattle.std.specs.Prelude.{ℕ}
+-- The numbers of the refusals, and what they say.
+use Rattle.std.specs.Prelude.{List, ℕ, codes}
 use Rattle.answer.specs.declared.Refusal.{Refusal}
 use Rattle.answer.specs.declared.Refusal.TheVariants as refusal
 
@@ -15,3 +15,16 @@ refusal_number refusal.Room = 7
 refusal_number refusal.Units = 8
 refusal_number refusal.Marks = 9
 refusal_number refusal.Mark = 10
+
+-- what each refusal says to a reader
+abbrev pub refusal_text : Refusal → List ℕ
+refusal_text refusal.Graph = codes "the region is no graph"
+refusal_text refusal.Width = codes "a width is above 128"
+refusal_text refusal.Id = codes "an id is not below the number of nodes"
+refusal_text refusal.Typing = codes "the operator and the types do not fit"
+refusal_text refusal.Value = codes "a Bool constant is not 0 or 1, or a range is empty or outside its type"
+refusal_text refusal.Keep = codes "the list does not fit the nodes, or an operand of a kept node is dropped"
+refusal_text refusal.Room = codes "there is no room for another node: a graph holds 512"
+refusal_text refusal.Units = codes "the call needs more than 1,024 steps"
+refusal_text refusal.Marks = codes "sixteen marks stand already"
+refusal_text refusal.Mark = codes "the mark does not stand"

@@ -4,6 +4,9 @@
 ghost use Rattle.std.specs.Prelude.{◌≡◌};
 ghost use Rattle.answer.specs.Refusal.{refusal_number};
 
+use std::error::Error;
+use std::fmt;
+
 // What a no to each question refuses, by the questions' numbers.
 #[derive(Clone, Copy, PartialEq, Eq, Debug)]
 pub enum Refusal {
@@ -28,3 +31,30 @@ impl Refusal {
         self as u64
     }
 }
+
+// What each says to a reader; the programs print its number.
+impl fmt::Display for Refusal {
+    ghost use Rattle.std.specs.Prelude.{Some};
+    ghost use Rattle.answer.specs.Refusal.{refusal_text};
+
+    ghost output = { λ refusal. Some (refusal_text refusal) };
+
+    fn fmt<W: fmt::Write>(&self, f: &mut fmt::Formatter<W>) -> fmt::Result {
+        f.write_str(match self {
+            Refusal::Graph => "the region is no graph",
+            Refusal::Width => "a width is above 128",
+            Refusal::Id => "an id is not below the number of nodes",
+            Refusal::Typing => "the operator and the types do not fit",
+            Refusal::Value =>
+                "a Bool constant is not 0 or 1, or a range is empty or outside its type",
+            Refusal::Keep =>
+                "the list does not fit the nodes, or an operand of a kept node is dropped",
+            Refusal::Room => "there is no room for another node: a graph holds 512",
+            Refusal::Units => "the call needs more than 1,024 steps",
+            Refusal::Marks => "sixteen marks stand already",
+            Refusal::Mark => "the mark does not stand",
+        })
+    }
+}
+
+impl Error for Refusal {}

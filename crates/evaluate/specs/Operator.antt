@@ -1,5 +1,7 @@
 -- The codes and widths of types and operators: the one place that has their numbers.
 use Rattle.std.specs.Prelude.{Bool, cond, ◌&&◌, List, [], ◌∷◌, ℕ, ◌+◌, ◌-◌, eqb, ltb, leb, get_or}
+use Rattle.std.specs.Prelude.{Option, Some}
+use Rattle.word.specs.Option.{only}
 use Rattle.range.specs.declared.ScalarType.{ScalarType}
 use Rattle.range.specs.declared.ScalarType.TheVariants as ty
 use Rattle.evaluate.specs.declared.Unary.{Unary}
@@ -113,6 +115,10 @@ BITS = 1
 -- the code of Integer
 abbrev pub INTEGER : ℕ
 INTEGER = 2
+
+-- the type of a code, with that width if it is Bits
+abbrev pub type_of : ℕ → ℕ → Option ScalarType
+type_of code width = cond (eqb code BOOL) (Some ty.Bool) (cond (eqb code BITS) (Some (ty.Bits width)) (only (eqb code INTEGER) ty.Integer))
 
 -- the widest Bits
 abbrev pub WIDEST : ℕ

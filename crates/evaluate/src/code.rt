@@ -1,8 +1,9 @@
 // The codes of types and operators, and the widest type: the one place that has their numbers.
 ghost use Rattle.std.specs.Prelude.{◌≡◌};
-ghost use Rattle.evaluate.specs.Operator.{unary_code, binary_code, unary_of, binary_of, is_unary_code, is_binary_code};
+ghost use Rattle.evaluate.specs.Operator.{unary_code, binary_code, type_of, unary_of, binary_of, is_unary_code, is_binary_code};
 
 use crate::{Binary, Unary};
+use range::ScalarType;
 
 // The unary codes: from UNARY on and below UNARY_END; from PARAMETER on the operator has a width.
 pub const UNARY: u64 = 10;
@@ -87,6 +88,18 @@ impl Binary {
         ensures { result ≡ binary_code self }
     {
         self as u64
+    }
+}
+
+// The type of a code, with that width if it is Bits.
+pub fn type_of(code: u64, width: u16) -> Option<ScalarType>
+    ensures { result ≡ type_of code width }
+{
+    match code {
+        BOOL => Some(ScalarType::Bool),
+        BITS => Some(ScalarType::Bits(width)),
+        INTEGER => Some(ScalarType::Integer),
+        _ => None,
     }
 }
 

@@ -4,8 +4,8 @@
 ghost use Rattle.std.specs.Prelude.{◌≡◌, ◌≤◌, IfSome, length};
 
 use crate::answers::{Answer, Vector, answer_of};
-use crate::operators::type_of;
 use answer::Refusal;
+use evaluate::code::type_of;
 use range::Range;
 use text::put_text_in_room;
 use vector_lines::{number_of, put_word_in_room, put_word_line, word_of};

@@ -1,7 +1,6 @@
-// Operators and types by their codes.
-use evaluate::code::{BITS, BOOL, INTEGER, binary_of, is_binary_code, is_unary_code, unary_of};
+// Operators by their codes.
+use evaluate::code::{binary_of, is_binary_code, is_unary_code, unary_of};
 use evaluate::{Binary, Unary};
-use range::ScalarType;
 
 #[derive(Clone, Copy)]
 pub(crate) enum Operator {
@@ -17,14 +16,5 @@ pub(crate) fn operator_of(code: u64, width: u16) -> Option<Operator> {
         Some(Operator::Binary(binary_of(code)))
     } else {
         None
-    }
-}
-
-pub(crate) fn type_of(code: u64, width: u16) -> Option<ScalarType> {
-    match code {
-        BOOL => Some(ScalarType::Bool),
-        BITS => Some(ScalarType::Bits(width)),
-        INTEGER => Some(ScalarType::Integer),
-        _ => None,
     }
 }

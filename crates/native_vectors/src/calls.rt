@@ -5,7 +5,7 @@ use crate::lines::Call;
 use crate::region::{Words, peek, poke};
 use crate::retains::retained;
 use answer::Refusal;
-use evaluate::code::{BITS, BOOL, INTEGER, binary_of, unary_of};
+use evaluate::code::{binary_of, type_of, unary_of};
 use graph::well_formed::is_graph;
 use graph::{EffectId, InputId, NodeId};
 use guard::Guard;
@@ -29,15 +29,6 @@ pub(crate) enum Outcome {
     Answered(Result<Reply, Refusal>),
     Words(Word, Word),
     Done,
-}
-
-fn type_of(code: u64, width: u16) -> Option<ScalarType> {
-    match code {
-        BOOL => Some(ScalarType::Bool),
-        BITS => Some(ScalarType::Bits(width)),
-        INTEGER => Some(ScalarType::Integer),
-        _ => None,
-    }
 }
 
 // The range of an input, where the flag says that there is one.

@@ -4,3 +4,4 @@ pub mod Order
 pub mod Sound
 pub mod Answers
 pub mod Valid
+pub mod Compared

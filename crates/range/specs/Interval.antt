@@ -23,7 +23,7 @@ pub record ◌∈◌ (z : ℤ) (a : Interval) : Type 0 where
 abbrev pub bounds_of : Range → Interval
 bounds_of r = record { low = int_of r.min; high = int_of r.max }
 
--- what a Option Range stands for
+-- what an Option Range stands for
 abbrev pub interval_of : Option Range → Option Interval
 interval_of (Some r) = Some (bounds_of r)
 interval_of None = None
