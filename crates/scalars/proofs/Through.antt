@@ -3,7 +3,7 @@ use mathlib.Core.Path.{◌≡◌, refl, sym, ap, ◌∙◌, subst}
 use mathlib.Core.Bool.{Bool, true, false}
 use mathlib.Core.List.{List, [], ◌∷◌, ◌++◌, append_assoc, append-nil}
 use mathlib.Core.Logic.{inr}
-use Rattle.std.specs.Prelude.{Some}
+use Rattle.std.specs.Prelude.{Option, None, Some}
 use Prim.Native.Nat.{ℕ, suc, ◌+◌, ◌-◌, ◌≤◌}
 use native.Mathlib.Nat.{le_of_eq}
 use native.Mathlib.Omega.{arith}
@@ -17,12 +17,48 @@ use Rattle.record.specs.Record.{little, Bytes, first_length}
 use Rattle.record.specs.declared.perform.Step.{Step}
 use Rattle.record.specs.declared.perform.Step.TheVariants as step
 use Rattle.record.specs.Perform.{progress_of, goes_on, ends, no_room, Effect, effect_in_graph, effect_call, left, record_in_graph}
-use Rattle.record.proofs.Little.{bytes_drop}
 use Rattle.record.proofs.Parts.{part_from}
 use Rattle.record.proofs.Within.{went_on, ended, had_no_room}
+use Rattle.std.proofs.Math.Logic.{∥∥₁_map, ∥∥₁_elim}
+use Rattle.std.proofs.Math.Bool.{Bool-set}
+use Rattle.graph.specs.WellFormed.{is_graph}
 use Rattle.meaning.specs.Program.{Run, next, Grown}
-use Rattle.meaning.proofs.Program.{bytes_take, effect-asked, grown-effect, grown-is_graph}
+use Rattle.meaning.proofs.Program.{effect-asked, grown-effect, grown-is_graph}
 use Rattle.scalars.specs.Blocks.{Wrote, StepSays, Waits, runs, joined, standing, AllWhole, Through, Stops}
+
+-- ---- the graph
+
+-- a graph that some list of calls left passes question 1
+pub known_graph : {g : List ℕ} → ∥ Grown g ∥₁ → is_graph g ≡ true
+known_graph {g} t = ∥∥₁_elim t (Bool-set (is_graph g) true) grown-is_graph
+
+-- a record leaves a graph that some list of calls left, and a line that fits
+module _ (g m bytes line h w after : List ℕ) (same : length after ≡ length line) (are : Bytes bytes) (known : ∥ Grown g ∥₁) where
+  abbrev Leaves : ℕ → Type 0
+  Leaves n = (n ≤ length line) × ∥ Grown h ∥₁
+
+  abbrev pub Written : Option Step → Type 0
+  Written (Some (step.Line n)) = Leaves n
+  Written (Some (step.Last n)) = Leaves n
+  Written None = Leaves 0
+
+  known_by : (e : Effect) → effect_in_graph g m bytes ≡ e → ∥ Grown e.graph ∥₁
+  known_by e q = subst (λ (e : Effect). ∥ Grown e.graph ∥₁) q (∥∥₁_map known (grown-effect g m bytes are))
+
+  pub leaves : (o : Option Step) → left (progress_of o) h w after ≡ record_in_graph g m bytes line → Written o
+  unfolding record_in_graph
+  leaves (Some (step.Line n)) q =
+      let l = went_on g m line h w after (effect_in_graph g m bytes) same n q in
+      (l.within, known_by _ l.effect)
+  leaves (Some (step.Last n)) q =
+      let l = ended g m line h w after (effect_in_graph g m bytes) same n q in
+      (l.within, known_by _ l.effect)
+  leaves None q = (omega arith, subst (λ x. ∥ Grown x ∥₁) (sym (had_no_room g m line h w after (effect_in_graph g m bytes) same q).graph) known)
+
+  pub known_after : (o : Option Step) → left (progress_of o) h w after ≡ record_in_graph g m bytes line → ∥ Grown h ∥₁
+  known_after (Some (step.Line n)) q = (leaves (Some (step.Line n)) q).1
+  known_after (Some (step.Last n)) q = (leaves (Some (step.Last n)) q).1
+  known_after None q = (leaves None q).1
 
 -- ---- the first record
 
@@ -75,28 +111,16 @@ whole_more : (rs : List (List ℕ)) (r : List ℕ) → AllWhole rs → first_len
 whole_more [] r w e = (e, tt)
 whole_more (q ∷ rs) r w e = (w.0, whole_more rs r w.1 e)
 
--- nothing is read yet
-pub through-none : (g m input out : List ℕ) → Grown g → Through g m input out 0 0 false g m out
-through-none g m input out w = record {
-  records = [];
-  whole = tt;
-  bytes = refl;
-  run = refl;
-  within = (omega arith, omega arith);
-  rest = refl;
-  grown = w;
-}
-
-pub through_more : {g m input out h w after : List ℕ} {read written : ℕ} → Bytes input → Through g m input out read written false h w after
+pub through_more : {g m input out h w after : List ℕ} {read written : ℕ} → Bytes input → is_graph h ≡ true → Through g m input out read written false h w after
     → length after ≡ length out → {k n : ℕ} {is_last : Bool} {i x line : List ℕ}
     → Wrote h w (drop read input) (drop written after) k n is_last i x line
     → Through g m input out (read + k) (written + n) is_last i x (take written after ++ line)
-through_more {g} {m} {input} {out} {h} {w} {after} {read} {written} b t same {k} {n} {is_last} {i} {x} {line} o =
+through_more {g} {m} {input} {out} {h} {w} {after} {read} {written} b is t same {k} {n} {is_last} {i} {x} {line} o =
     let r : List ℕ = take k (drop read input) in
     let f = first_of (drop read input) k o.whole in
     let p : length (take written after) ≡ written = length-take-le written after (omega (arith, t.within.1, same)) in
     let e : effect_call h w r ≡ record { text = take n line; is_last = is_last; graph = i; mapping = x } =
-    sym (effect-asked h w r (grown-is_graph t.grown)) ∙ o.effect in
+    sym (effect-asked h w r is) ∙ o.effect in
     let a : take (written + n) (take written after ++ line) ≡ take written after ++ take n line =
     rw p at (take-append-add (take written after) line n) in
     let d : drop (written + n) (take written after ++ line) ≡ drop n line = rw p at (drop-append-add (take written after) line n) in
@@ -107,7 +131,6 @@ through_more {g} {m} {input} {out} {h} {w} {after} {read} {written} b t same {k}
       run = runs_more (standing g m) t.records r ∙ ap (λ (s : Run). next s r) t.run ∙ rw (e, a);
       within = (omega (arith, t.within.0, f.within, length-drop read input), omega (arith, t.within.1, o.within, length-drop written after, same));
       rest = d ∙ o.rest ∙ drop-drop n written after ∙ sym (drop-drop n written after) ∙ ap (drop n) t.rest ∙ drop-drop n written out;
-      grown = subst Grown (ap (λ (q : Effect). q.graph) o.effect) (grown-effect h w r (bytes_take k (drop read input) (bytes_drop read input b)) t.grown);
     }
 
 -- ---- one record by its step
@@ -142,7 +165,7 @@ module _ (g m bytes line h w after : List ℕ) (k : ℕ) (whole : first_length b
 put_rest : (a : ℕ) (xs ys : List ℕ) → take a xs ++ (ys ++ drop (length xs - a) (drop a xs)) ≡ take a xs ++ ys
 put_rest a xs ys = rw (drop_of_length-le (drop a xs) (le_of_eq (length-drop a xs)), append-nil ys)
 
-module _ {g m input out h w after : List ℕ} {read written : ℕ} (b : Bytes input) (t : Through g m input out read written false h w after) (same : length after ≡ length out) where
+module _ {g m input out h w after : List ℕ} {read written : ℕ} (b : Bytes input) (is : is_graph h ≡ true) (t : Through g m input out read written false h w after) (same : length after ≡ length out) where
   -- the bytes from `read` on, and the slice from `written` on
   abbrev rest : List ℕ
   rest = take (length input - read) (drop read input)
@@ -155,7 +178,7 @@ module _ {g m input out h w after : List ℕ} {read written : ℕ} (b : Bytes in
 
   pub through_turn : {k n : ℕ} {is_last : Bool} {i x line : List ℕ} → Wrote h w rest room k n is_last i x line
       → Through g m input out (read + k) (written + n) is_last i x (back line)
-  through_turn {k} {n} {is_last} {i} {x} {line} o = rw (put_rest written after line) (through_more b t same (rw (part_from read input, part_from written after) at o))
+  through_turn {k} {n} {is_last} {i} {x} {line} o = rw (put_rest written after line) (through_more b is t same (rw (part_from read input, part_from written after) at o))
 
   -- a record takes bytes, and they are there
   pub turn_reads : {k n : ℕ} {is_last : Bool} {i x line : List ℕ} → Wrote h w rest room k n is_last i x line → (3 ≤ k) × (read + k ≤ length input) × (written + n ≤ length out)

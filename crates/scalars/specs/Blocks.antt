@@ -6,7 +6,7 @@ use Rattle.record.specs.Line.{LINE}
 use Rattle.record.specs.Perform.{effect_in_graph}
 use Rattle.record.specs.declared.perform.Step.{Step}
 use Rattle.record.specs.declared.perform.Step.TheVariants as step
-use Rattle.meaning.specs.Program.{Run, next, Grown}
+use Rattle.meaning.specs.Program.{Run, next}
 use Rattle.scalars.specs.declared.blocks.One.{One}
 use Rattle.scalars.specs.declared.blocks.State.{State}
 use Rattle.scalars.specs.declared.blocks.State.TheVariants as state
@@ -66,7 +66,6 @@ pub record Through (g m input out : List ℕ) (read written : ℕ) (is_over : Bo
   pub run : runs (standing g m) records ≡ record { text = take written after; is_over = is_over; graph = h; mapping = w }
   pub within : (read ≤ length input) × (written ≤ length out)
   pub rest : drop written after ≡ drop written out
-  pub grown : Grown h
 
 -- a run ends with a bad record, without a whole record, or without room for a line
 abbrev pub Stops : List ℕ → List ℕ → ℕ → ℕ → Bool → Type 0

@@ -3,31 +3,25 @@
 
 mod blocks;
 
-ghost use Rattle.meaning.specs.Program.{Grown};
-
-use blocks::{State, finish, turn};
-use graph::layout::{NODES, REGION, Region};
+use blocks::{Memory, State};
 use std::io::{self, Stdin, Stdout};
 
 // A proved loop has to end: this one has a number of turns that no run uses up.
 fn run(
     stdin: Stdin,
     stdout: Stdout,
-    g: &mut Region,
-    mapping: &mut [u64],
+    memory: &mut Memory,
     input: &mut [u8],
     out: &mut [u8],
-) -> io::Result<()>
-    requires { Grown g.old }
-{
+) -> io::Result<()> {
     let mut filled = 0;
     for _ in 0..u64::MAX {
-        match turn(stdin, stdout, g, mapping, input, filled, out)? {
+        match memory.turn(stdin, stdout, input, filled, out)? {
             State::Reading(left) => {
                 filled = left;
             }
             State::Ended(left) => {
-                return finish(stdout, g, mapping, &input[..left], out);
+                return memory.finish(stdout, &input[..left], out);
             }
         }
     }
@@ -36,19 +30,10 @@ fn run(
 
 // The longest record has 65,538 bytes: a full buffer holds a whole one.
 fn main(rt: HostRuntime) {
-    let mut g = [0u64; REGION];
-    let mut mapping = [0u64; NODES];
+    let mut memory = Memory::new();
     let mut input = [0u8; 131072];
     let mut out = [0u8; 65536];
 
     // A write that fails ends the run: there is nobody to tell.
-    let _is_written = run(
-        rt.stdin(),
-        rt.stdout(),
-        &mut g,
-        &mut mapping,
-        &mut input,
-        &mut out,
-    )
-    .is_ok();
+    let _is_written = run(rt.stdin(), rt.stdout(), &mut memory, &mut input, &mut out).is_ok();
 }

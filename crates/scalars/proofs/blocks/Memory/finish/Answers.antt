@@ -1,4 +1,4 @@
--- `scalars::blocks::finish` meets its contract: the line of the number of nodes fits what the line before it leaves. Assumes nothing.
+-- `scalars::blocks::Memory::finish` meets its contract: the line of the number of nodes fits what the line before it leaves. Assumes nothing.
 use mathlib.Core.Bool.{Bool, true, false, cond}
 use mathlib.Core.List.{List}
 use mathlib.Core.Path.{◌≡◌, sym}
@@ -11,7 +11,7 @@ use Rattle.text.specs.Text.{placed}
 use Rattle.record.specs.Line.{LINE, nodes_line}
 use Rattle.record.proofs.Parts.{part_from}
 use Rattle.record.proofs.Within.{placed-fits}
-use Rattle.scalars.proofs.blocks.finish.Goals as goal
+use Rattle.scalars.proofs.blocks.Memory.finish.Goals as goal
 
 -- a text that is placed at the start of a slice, or not, fits it
 fits : (b : Bool) (line text after : List ℕ) (n : ℕ) → n ≡ cond b (length text) 0 → after ≡ cond b (placed line 0 text) line → length after ≡ length line → n ≤ length line
