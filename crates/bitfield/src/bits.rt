@@ -17,11 +17,10 @@ use word::Word;
 // The most steps.
 pub const DEPTH: u64 = 64;
 
-fn has_bit(value: Word, index: u64) -> bool
-    requires { index < 128 }
+fn has_bit(value: Word, index: u16) -> bool
     ensures { result ≡ has_bit (val value) index }
 {
-    value.bit(index as u32) == 1
+    value.bit(u32::from(index)) == 1
 }
 
 // Is the bit above the type's width?
@@ -31,39 +30,38 @@ pub fn is_above(ty: ScalarType, index: u64) -> bool
     matches!(ty, ScalarType::Bits(width) if u64::from(width) <= index)
 }
 
-fn own(id: NodeId, index: u64) -> BitStep
+fn own(id: NodeId, index: u16) -> BitStep
     ensures { step_of result ≡ here (source id.0 index) }
 {
-    BitStep::Here(Bit::Source(id, index))
+    BitStep::Here(Bit::Source(id, u64::from(index)))
 }
 
 // A bit of an And, Or or Xor with a constant whose bit is set or not.
-fn masked_bit(op: Binary, id: NodeId, set: bool, base: NodeId, index: u64) -> BitStep
+fn masked_bit(op: Binary, id: NodeId, set: bool, base: NodeId, index: u16) -> BitStep
     ensures { step_of result ≡ masked_bit op id.0 set base.0 index }
 {
     match (op, set) {
         (Binary::And, false) => BitStep::Here(Bit::Known(false)),
         (Binary::Or, true) => BitStep::Here(Bit::Known(true)),
-        (Binary::Xor, true) => BitStep::Flipped(base, index),
-        (Binary::And | Binary::Or | Binary::Xor, _) => BitStep::From(base, index),
+        (Binary::Xor, true) => BitStep::Flipped(base, u64::from(index)),
+        (Binary::And | Binary::Or | Binary::Xor, _) => BitStep::From(base, u64::from(index)),
         _ => own(id, index),
     }
 }
 
 // Only a truncation hands a bit on.
-fn unary_bit(op: Unary, id: NodeId, value: NodeId, index: u64) -> BitStep
+fn unary_bit(op: Unary, id: NodeId, value: NodeId, index: u16) -> BitStep
     ensures { step_of result ≡ unary_bit op id.0 value.0 index }
 {
     match op {
-        Unary::Truncate(width) if index < u64::from(width) => BitStep::From(value, index),
+        Unary::Truncate(width) if index < width => BitStep::From(value, u64::from(index)),
         Unary::Truncate(_) => BitStep::Here(Bit::Known(false)),
         _ => own(id, index),
     }
 }
 
 // A bit of a binary operation; `mask` is its right operand's constant.
-fn binary_bit(op: Binary, id: NodeId, mask: Option<Word>, base: NodeId, index: u64) -> BitStep
-    requires { index < 128 }
+fn binary_bit(op: Binary, id: NodeId, mask: Option<Word>, base: NodeId, index: u16) -> BitStep
     ensures { step_of result ≡ given (number_of mask) (λ c. masked_bit op id.0 (has_bit c index) base.0 index) (here (source id.0 index)) }
 {
     match mask {
@@ -72,25 +70,26 @@ fn binary_bit(op: Binary, id: NodeId, mask: Option<Word>, base: NodeId, index: u
     }
 }
 
-fn operation_bit(g: &Region, id: NodeId, index: u64, operation: Operation) -> BitStep
-    requires { index < 128 }
+fn operation_bit(g: &Region, id: NodeId, index: u16, operation: Operation) -> BitStep
     ensures { step_of result ≡ bit_of g.now id.0 index (op_of operation) }
 {
     match operation {
         Operation::Constant(value) => BitStep::Here(Bit::Known(has_bit(value, index))),
-        Operation::Refine(value) => BitStep::From(value, index),
-        Operation::Slice { width, .. } if u64::from(width) <= index => {
-            BitStep::Here(Bit::Known(false))
-        }
-        Operation::Slice { value, offset, .. } => BitStep::From(value, u64::from(offset) + index),
-        Operation::Concat { low, low_width, .. } if index < u64::from(low_width) => {
-            BitStep::From(low, index)
-        }
+        Operation::Refine(value) => BitStep::From(value, u64::from(index)),
+        Operation::Slice { width, .. } if width <= index => BitStep::Here(Bit::Known(false)),
+        Operation::Slice { value, offset, .. } => BitStep::From(
+            value,
+            u64::from(offset) + u64::from(index),
+        ),
+        Operation::Concat { low, low_width, .. } if index < low_width => BitStep::From(
+            low,
+            u64::from(index),
+        ),
         Operation::Concat {
             high,
             low_width,
             ..
-        } => { BitStep::From(high, index - u64::from(low_width)) }
+        } => BitStep::From(high, u64::from(index - low_width)),
         Operation::Unary(op, value) => unary_bit(op, id, value, index),
         Operation::Binary(op, base, right) => binary_bit(op, id, literal(g, right), base, index),
         _ => own(id, index),
@@ -105,7 +104,7 @@ fn bit_step(g: &Region, id: NodeId, index: u64) -> BitStep
     if 128 <= index || is_above(type_at(g, id), index) {
         return BitStep::Here(Bit::Known(false));
     }
-    operation_bit(g, id, index, operation_at(g, id))
+    operation_bit(g, id, index as u16, operation_at(g, id))
 }
 
 // A known bit turned over; what is not known comes to None.

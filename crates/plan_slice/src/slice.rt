@@ -51,37 +51,40 @@ fn bounded_plan(range: Option<Range>, value: NodeId, offset: u64, width: u16) ->
     None
 }
 
-fn new_slice(value: NodeId, offset: u64, width: u16) -> Plan
-    requires { offset < 128 }
+fn new_slice(value: NodeId, offset: u16, width: u16) -> Plan
     ensures { plan_of result ≡ new_slice value.0 offset width }
 {
     let ty = ScalarType::Bits(width);
     let operation = Operation::Slice {
         value,
-        offset: offset as u16,
+        offset,
         width,
     };
     Plan::Add(type_range(ty), operation, ty)
 }
 
 // A slice of a concat: of its high part, of its low part, or of both.
-fn slice_concat(high: NodeId, low: NodeId, low_width: u16, offset: u64, width: u16) -> Plan
-    requires { offset < 128 }
+fn slice_concat(high: NodeId, low: NodeId, low_width: u16, offset: u16, width: u16) -> Plan
     ensures { plan_of result ≡ slice_concat high.0 low.0 low_width offset width }
 {
-    let seam = u64::from(low_width);
-    if seam <= offset {
-        return Plan::Slice(high, offset - seam, width);
+    if low_width <= offset {
+        return Plan::Slice(high, u64::from(offset - low_width), width);
     }
-    if offset + u64::from(width) <= seam {
-        return Plan::Slice(low, offset, width);
+    if u64::from(offset) + u64::from(width) <= u64::from(low_width) {
+        return Plan::Slice(low, u64::from(offset), width);
     }
-    let lower_width = low_width - offset as u16;
-    Plan::SplitConcat(low, high, offset, lower_width, width - lower_width, width)
+    let lower_width = low_width - offset;
+    Plan::SplitConcat(
+        low,
+        high,
+        u64::from(offset),
+        lower_width,
+        width - lower_width,
+        width,
+    )
 }
 
-fn slice_operation(operation: Operation, value: NodeId, offset: u64, width: u16) -> Plan
-    requires { offset < 128 }
+fn slice_operation(operation: Operation, value: NodeId, offset: u16, width: u16) -> Plan
     ensures { plan_of result ≡ slice_operation (op_of operation) value.0 offset width }
 {
     match operation {
@@ -89,8 +92,8 @@ fn slice_operation(operation: Operation, value: NodeId, offset: u64, width: u16)
             value: source,
             offset: base,
             width: source_width,
-        } if offset + u64::from(width) <= u64::from(source_width) => {
-            Plan::Slice(source, u64::from(base) + offset, width)
+        } if u64::from(offset) + u64::from(width) <= u64::from(source_width) => {
+            Plan::Slice(source, u64::from(base) + u64::from(offset), width)
         }
         Operation::Concat {
             high,
@@ -113,7 +116,7 @@ fn slice_part(g: &Region, value: NodeId, offset: u64, width: u16) -> Plan
     if offset == 0 && ty == ScalarType::Bits(width) {
         return Plan::Give(value);
     }
-    slice_operation(operation_at(g, value), value, offset, width)
+    slice_operation(operation_at(g, value), value, offset as u16, width)
 }
 
 // slice after modular.
