@@ -22,11 +22,6 @@ masked k w v f =
     ap (λ (n : ℕ). v % 2 ^ n) (min-eq_right h) ∙ mod-eq_of_lt f ∙ sym (mod-eq_of_lt (lt_of_lt_of_le f (pow_mono h))))
     (lt-or-ge w k)
 
--- a word below 2 ^ 32 is its low half
-pub low_digit : (w : Word) → val w < 2 ^ 32 → w.lo % 2 ^ 32 ≡ val w
-unfolding val
-low_digit w h = omega arith
-
 -- a count clamped twice, to the lesser bound first
 pub clamped_twice : (n m k : ℕ) → m ≤ k → min (min n m) k ≡ min n m
 clamped_twice n m k h = min-eq_left (le_trans (min-le_right n m) h)

@@ -39,11 +39,15 @@ pub fn extended(value: Word, width: u16) -> Signed
 }
 
 // Rust's u32::try_from(count).unwrap_or(u32::MAX).
+#[tactic(auto, unfolding(word::specs::Value::val))]
 pub fn to_u32(count: Word) -> u32
     ensures { result ≡ min (val count) (2 ^ 32 - 1) }
 {
-    let clamped = count.min(Word::from(0xFFFF_FFFF));
-    (clamped.lo % 0x1_0000_0000) as u32
+    if count.hi == 0 {
+        u32::try_from(count.lo).unwrap_or(u32::MAX)
+    } else {
+        u32::MAX
+    }
 }
 
 // A value as one of its type: the low bits for Bits.

@@ -57,12 +57,10 @@ pub(crate) fn signed_of(negative: bool, magnitude: Word) -> Option<Signed>
         } else {
             Some(magnitude.wrapping_neg().as_signed())
         }
+    } else if magnitude < limit {
+        Some(magnitude.as_signed())
     } else {
-        if magnitude < limit {
-            Some(magnitude.as_signed())
-        } else {
-            None
-        }
+        None
     }
 }
 
