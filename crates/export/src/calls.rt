@@ -18,6 +18,7 @@ use native::perform::{call, call_in_graph};
 use request::Request;
 use word::Word;
 
+#[tactic(auto, using(graph::proofs::Grown::graph_facts))]
 fn answered_in_graph(g: &mut [u64], numbers: Numbers) -> u64
     requires { is_graph g.old ≡ true }
     ensures { exported result g.new ≡ numbered (request_in_graph g.old (asked_by numbers)) }
@@ -27,6 +28,7 @@ fn answered_in_graph(g: &mut [u64], numbers: Numbers) -> u64
 }
 
 // The same of a request, for the calls whose request is made where they stand: their numbers are not written and read again.
+#[tactic(auto, using(graph::proofs::Grown::graph_facts))]
 fn asked_in_graph(g: &mut [u64], request: Request) -> u64
     requires { is_graph g.old ≡ true }
     ensures { exported result g.new ≡ numbered (request_in_graph g.old (request_of request)) }

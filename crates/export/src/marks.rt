@@ -20,6 +20,7 @@ pub extern "C" fn scalars_is_marked(g: &[u64], m: &[u64]) -> u64
 // For a caller that knows the regions to be a graph with its marks: on other regions nothing is promised, not even that lent words
 // alone are touched.
 #[unsafe(no_mangle)]
+#[tactic(auto, using(graph::proofs::Grown::graph_facts), unfolding(mark::specs::WellFormed::is_marked, mark::specs::WellFormed::are_marks))]
 pub extern "C" fn scalars_mark_in_graph(g: &[u64], m: &mut [u64]) -> u64
     requires { is_marked g.now m.old ≡ true }
     ensures { MarkedAs result m.new (mark_in_graph g.now m.old) }
@@ -38,6 +39,7 @@ pub extern "C" fn scalars_mark(g: &[u64], m: &mut [u64]) -> u64
 
 // As scalars_mark_in_graph.
 #[unsafe(no_mangle)]
+#[tactic(auto, using(native::proofs::Numbers::number_answer, graph::proofs::Grown::graph_facts), unfolding(mark::specs::WellFormed::is_marked, mark::specs::WellFormed::are_marks))]
 pub extern "C" fn scalars_return_to_in_graph(g: &mut [u64], m: &mut [u64], mark: u64) -> u64
     requires { is_marked g.old m.old ≡ true }
     ensures { ReturnedAs result g.new m.new (return_in_graph g.old m.old mark) }

@@ -37,6 +37,7 @@ pub extern "C" fn scalars_is_graph(g: &[u64]) -> u64
 }
 
 // The region of a graph.
+#[tactic(auto, using(graph::proofs::Grown::graph_facts))]
 fn region_of(g: &[u64]) -> &Region
     requires { is_graph g.now ≡ true }
     ensures { result.now ≡ g.now }
@@ -56,6 +57,7 @@ fn put(out: &mut [u64], words: &[u64]) -> u64
 }
 
 // A word's halves, the low one first.
+#[tactic(auto, using(graph::proofs::Codes::halves))]
 fn halves_of(word: Word) -> [u64; 2]
     ensures { result ≡ val word % 2 ^ 64 ∷ val word / 2 ^ 64 ∷ [] }
 {
@@ -116,6 +118,7 @@ fn words_at(g: &Region, node: u64) -> &[u64]
 
 // A node: 1 and its words, which are its type, range, operation and alias.
 #[unsafe(no_mangle)]
+#[tactic(auto, using(graph::proofs::Grown::graph_facts), unfolding(crate::specs::Reading::node_in_graph))]
 pub extern "C" fn scalars_node_in_graph(g: &[u64], id: u64, out: &mut [u64]) -> u64
     requires { is_graph g.now ≡ true }
     ensures { exported result out.new ≡ node_in_graph g.now id out.old }

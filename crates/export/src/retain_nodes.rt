@@ -10,6 +10,7 @@ use native::Numbered;
 // For a caller that knows the regions to be a graph with its marks: on other regions nothing is promised, not even that lent words
 // alone are touched.
 #[unsafe(no_mangle)]
+#[tactic(auto, using(graph::proofs::Grown::graph_facts), unfolding(mark::specs::WellFormed::is_marked, mark::specs::WellFormed::are_marks))]
 pub extern "C" fn scalars_retain_in_graph(
     g: &mut [u64],
     m: &mut [u64],

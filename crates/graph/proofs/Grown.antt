@@ -107,18 +107,7 @@ module _ (g : List ℕ) (count n : ℕ) where
   pub facts_node : Node g count n → is_node g count n ≡ true
   facts_node f = rw (f.type, f.range, facts_alias n count (alias_at g n) f.alias) f.operation
 
--- a type's width is a u16
-pub type_width_lem : (code width : ℕ) → is_type code width ≡ true → narrow width ≡ width
-type_width_lem code width =
-    chosen (eqb code BOOL) (λ q. none)
-    (λ q.
-    chosen (eqb code BITS) (λ q e. let h = leb-true width WIDEST e in omega arith)
-    (λ q. chosen (eqb code INTEGER) (λ q. none) (λ q e. absurd (false≢true e))))
-  where
-    none : eqb width 0 ≡ true → narrow width ≡ width
-    none e = let h = eqb-true width 0 e in omega arith
-
--- and it is at most WIDEST
+-- a type's width is at most WIDEST
 type_small : (code width : ℕ) → is_type code width ≡ true → type_width (type_of code width) ≤ WIDEST
 type_small code width = by (eqb code BOOL) (eqb code BITS)
   where

@@ -82,6 +82,7 @@ fn fields_of(operation: Operation) -> Fields
 }
 
 // The words of a node without an alias.
+#[tactic(auto, using(crate::proofs::Codes::halves), unfolding(crate::specs::Node::words_of))]
 pub fn words_of(ty: ScalarType, range: Option<Range>, operation: Operation) -> [u64; SIZE]
     ensures { result ≡ words_of ty (interval_of range) (op_of operation) }
 {

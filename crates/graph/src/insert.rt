@@ -32,6 +32,7 @@ fn same_key(g: &[u64], at: usize, words: &[u64; SIZE]) -> bool
 }
 
 // How many of the eight nodes whose words begin at `at` come before the first that has this first field? All, if none has it.
+#[tactic(auto, using(crate::proofs::Search::apart_more))]
 fn apart(g: &[u64], at: usize, first: u64) -> u64
     requires { at + 8 * WORDS ≤ length g.now }
     ensures { (result ≤ 8) × (are_apart g.now first at result ≡ true) }
@@ -46,6 +47,7 @@ fn apart(g: &[u64], at: usize, first: u64) -> u64
 
 // Past nodes with another first field, sixteen at a time: the search from there on has the same answer. The last sixteen may reach past the end, not past the region.
 // A loop by hand: an iterator that ends within its step, `step_by` with `find_map` in it, is no plainer.
+#[tactic(auto, using(crate::proofs::Search::lowest_past, crate::proofs::Search::lowest_past_both))]
 fn pass_over(g: &Region, from: u64, end: u64, words: &[u64; SIZE]) -> u64
     requires { end ≤ LIMIT }
     ensures { (from ≤ result) × (lowest (same_key g.now words.now) result (end - result) ≡ lowest (same_key g.now words.now) from (end - from)) }
@@ -69,6 +71,7 @@ fn pass_over(g: &Region, from: u64, end: u64, words: &[u64; SIZE]) -> u64
 }
 
 // The lowest node from `from` on, below the count, with this key. A loop by hand: how far it goes depends on the words there.
+#[tactic(auto, using(crate::proofs::Search::lowest_at, crate::proofs::Search::lowest_on, crate::proofs::Search::lowest_end))]
 fn find(g: &Region, from: u64, words: &[u64; SIZE]) -> Option<u64>
     ensures { result ≡ lowest (same_key g.now words.now) from (min (count_of g.now) LIMIT - from) }
 {

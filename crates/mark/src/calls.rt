@@ -13,6 +13,7 @@ use answer::Refusal;
 use graph::layout::Region;
 use native::Answer;
 
+#[tactic(auto, using(graph::proofs::Grown::graph_facts), unfolding(crate::specs::Mark::mark_in_graph, crate::specs::WellFormed::is_marked))]
 pub fn mark_in_graph(g: &Region, m: &mut Marks) -> Result<MarkId, Refusal>
     requires { is_marked g.now m.old ≡ true }
     ensures { marking (marking_of result) m.new ≡ mark_in_graph g.now m.old }
@@ -26,6 +27,7 @@ pub fn mark_in_graph(g: &Region, m: &mut Marks) -> Result<MarkId, Refusal>
     }
 }
 
+#[tactic(auto, using(graph::proofs::Grown::graph_facts), unfolding(crate::specs::Mark::mark_call, crate::specs::WellFormed::is_marked, crate::specs::WellFormed::are_marks))]
 pub fn mark(g: &[u64], m: &mut [u64]) -> Result<MarkId, Refusal>
     ensures { marking (marking_of result) m.new ≡ mark_call g.now m.old }
 {
@@ -38,6 +40,7 @@ pub fn mark(g: &[u64], m: &mut [u64]) -> Result<MarkId, Refusal>
 }
 
 // The graph as it was at a mark that stands; later marks are dropped.
+#[tactic(auto, unfolding(crate::specs::Mark::return_in_graph))]
 pub fn return_to_in_graph(g: &mut Region, m: &mut Marks, mark: MarkId) -> Result<Answer, Refusal>
     requires { is_marked g.old m.old ≡ true }
     ensures { returning (answer_of result) g.new m.new ≡ return_in_graph g.old m.old mark.0 }
@@ -52,6 +55,7 @@ pub fn return_to_in_graph(g: &mut Region, m: &mut Marks, mark: MarkId) -> Result
     }
 }
 
+#[tactic(auto, using(graph::proofs::Grown::graph_facts), unfolding(crate::specs::Mark::return_call, crate::specs::WellFormed::is_marked, crate::specs::WellFormed::are_marks))]
 pub fn return_to(g: &mut [u64], m: &mut [u64], mark: MarkId) -> Result<Answer, Refusal>
     ensures { returning (answer_of result) g.new m.new ≡ return_call g.old m.old mark.0 }
 {

@@ -10,6 +10,7 @@ use graph::alias::{restore_to, save_aliases};
 use graph::layout::{NODES, Region, count};
 
 // Mark `mark` of the graph as it is; it is the last.
+#[tactic(auto, using(crate::proofs::Marks::marked_by_lem))]
 pub(crate) fn set_mark(g: &Region, m: &mut Marks, mark: u64)
     requires { (count_of g.now ≤ LIMIT) × (mark < MOST) }
     ensures { m.new ≡ marked g.now m.old mark }
@@ -21,6 +22,7 @@ pub(crate) fn set_mark(g: &Region, m: &mut Marks, mark: u64)
 }
 
 // The graph as it was at a mark.
+#[tactic(auto, using(graph::proofs::Grown::graph_facts), unfolding(crate::specs::Mark::returned))]
 pub(crate) fn go_back(g: &mut Region, m: &Marks, mark: u64)
     requires { (is_graph g.old ≡ true) × (mark < MOST) × (count_at m.now mark ≤ count_of g.old) }
     ensures { g.new ≡ returned g.old m.now mark }

@@ -23,6 +23,7 @@ fn drop_marks(m: &mut Marks, retained: Result<u64, Refusal>)
     }
 }
 
+#[tactic(auto, unfolding(crate::specs::Mark::retain_in_graph, crate::specs::WellFormed::is_marked))]
 pub fn retain_in_graph(
     g: &mut Region,
     m: &mut Marks,
@@ -37,6 +38,7 @@ pub fn retain_in_graph(
     retained
 }
 
+#[tactic(auto, using(graph::proofs::Grown::graph_facts), unfolding(crate::specs::Mark::retain_call, crate::specs::WellFormed::is_marked, crate::specs::WellFormed::are_marks))]
 pub fn retain(
     g: &mut [u64],
     m: &mut [u64],

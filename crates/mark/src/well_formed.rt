@@ -32,6 +32,7 @@ fn is_mark(m: &Marks, mark: u64, limit: u64) -> bool
 }
 
 // From the last mark down: none has more nodes than the next one, nor the last more than the graph.
+#[tactic(auto, using(crate::proofs::Facts::first_on, crate::proofs::Facts::first_off, crate::proofs::Facts::mark_fewer, crate::proofs::Facts::marks_are), unfolding(crate::specs::WellFormed::are_marks))]
 fn are_marks(m: &Marks, nodes: u64) -> bool
     requires { nodes ≤ LIMIT }
     ensures { result ≡ are_marks nodes m.now }
@@ -51,6 +52,7 @@ fn are_marks(m: &Marks, nodes: u64) -> bool
 }
 
 // Question 1 of both regions.
+#[tactic(auto, using(graph::proofs::Grown::graph_facts, crate::proofs::Facts::short_marks), unfolding(crate::specs::WellFormed::is_marked))]
 pub fn is_marked(g: &[u64], m: &[u64]) -> bool
     ensures { result ≡ is_marked g.now m.now }
 {

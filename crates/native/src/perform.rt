@@ -43,6 +43,7 @@ pub(crate) fn settle(built: Built, full: Refusal) -> Result<Answer, Refusal>
 }
 
 // A condition is assumed; without room for a node its aliases and nodes are taken back. Most guards narrow nothing, and need nothing saved.
+#[tactic(auto, using(assume::proofs::Idle::guard_idle, graph::proofs::Grown::graph_facts))]
 fn assume_or_restore(
     g: &mut Region,
     condition: NodeId,
@@ -68,6 +69,7 @@ fn assume_or_restore(
 }
 
 // The work on a request whose questions are answered yes.
+#[tactic(auto, unfolding(crate::specs::Perform::worked))]
 fn work(g: &mut Region, request: Request, full: Refusal) -> Result<Answer, Refusal>
     requires { is_graph g.old ≡ true }
     ensures { called (answer_of result) g.new ≡ worked full g.old (request_of request) }
@@ -94,6 +96,7 @@ fn work(g: &mut Region, request: Request, full: Refusal) -> Result<Answer, Refus
 }
 
 // A refusal takes back what was added since there were `nodes` nodes.
+#[tactic(auto, using(crate::proofs::Parts::refused_is))]
 fn take_back(g: &mut Region, nodes: u64, answer: Result<Answer, Refusal>)
     requires { nodes ≤ LIMIT }
     ensures { g.new ≡ left nodes (answer_of answer) g.old }
@@ -104,6 +107,7 @@ fn take_back(g: &mut Region, nodes: u64, answer: Result<Answer, Refusal>)
 }
 
 // Questions 2 to 5, then the work; `full` is the answer without room for a node.
+#[tactic(auto, using(graph::proofs::Grown::graph_facts), unfolding(crate::specs::Perform::performed))]
 fn perform(g: &mut Region, request: Request, full: Refusal) -> Result<Answer, Refusal>
     requires { is_graph g.old ≡ true }
     ensures { called (answer_of result) g.new ≡ performed full g.old (request_of request) }
@@ -127,6 +131,7 @@ fn perform(g: &mut Region, request: Request, full: Refusal) -> Result<Answer, Re
 }
 
 // For a caller that knows the region to be a graph: question 1 is not asked. On another region nothing is promised.
+#[tactic(auto, unfolding(crate::specs::Perform::request_in_graph))]
 pub fn call_in_graph(g: &mut Region, request: Request) -> Result<Answer, Refusal>
     requires { is_graph g.old ≡ true }
     ensures { called (answer_of result) g.new ≡ request_in_graph g.old (request_of request) }
@@ -134,6 +139,7 @@ pub fn call_in_graph(g: &mut Region, request: Request) -> Result<Answer, Refusal
     perform(g, request, Refusal::Room)
 }
 
+#[tactic(auto, unfolding(crate::specs::Perform::request_call, graph::specs::WellFormed::is_graph))]
 pub fn call(g: &mut [u64], request: Request) -> Result<Answer, Refusal>
     ensures { called (answer_of result) g.new ≡ request_call g.old (request_of request) }
 {

@@ -29,6 +29,7 @@ pub fn literal_in_graph(g: &Region, id: NodeId) -> Result<Option<Word>, Refusal>
     }
 }
 
+#[tactic(auto, unfolding(crate::specs::Call::literal_call))]
 pub fn literal(g: &[u64], id: NodeId) -> Result<Option<Word>, Refusal>
     ensures { outcome_of result ≡ literal_call g.now id.0 }
 {
@@ -39,6 +40,7 @@ pub fn literal(g: &[u64], id: NodeId) -> Result<Option<Word>, Refusal>
 }
 
 // The node that stands for this one now.
+#[tactic(auto, unfolding(crate::specs::Call::resolve_in_graph))]
 pub fn resolve_in_graph(g: &Region, id: NodeId) -> Result<Answer, Refusal>
     requires { is_graph g.now ≡ true }
     ensures { answer_of result ≡ resolve_in_graph g.now id.0 }
@@ -50,6 +52,7 @@ pub fn resolve_in_graph(g: &Region, id: NodeId) -> Result<Answer, Refusal>
     }
 }
 
+#[tactic(auto, unfolding(crate::specs::Call::resolve_call))]
 pub fn resolve(g: &[u64], id: NodeId) -> Result<Answer, Refusal>
     ensures { answer_of result ≡ resolve_call g.now id.0 }
 {
@@ -78,6 +81,7 @@ pub fn guard_in_graph(
     Ok(guarded::guarded(g, condition, expected))
 }
 
+#[tactic(auto, unfolding(crate::specs::Guard::guard_call))]
 pub fn guard(g: &[u64], condition: NodeId, expected: bool) -> Result<Option<Guard>, Refusal>
     ensures { reading_of result ≡ guard_call g.now condition.0 expected }
 {

@@ -9,6 +9,7 @@ use graph::layout::Region;
 use graph::well_formed::is_graph;
 use retain::keep_list::is_keep_list;
 
+#[tactic(auto, unfolding(crate::specs::Retain::retain_in_graph))]
 pub fn retain_unmarked_in_graph(
     g: &mut Region,
     keep: &[u8],
@@ -24,6 +25,7 @@ pub fn retain_unmarked_in_graph(
     }
 }
 
+#[tactic(auto, unfolding(crate::specs::Retain::retain_call, graph::specs::WellFormed::is_graph))]
 pub fn retain_unmarked(g: &mut [u64], keep: &[u8], mapping: &mut [u64]) -> Result<u64, Refusal>
     ensures { retention (outcome_of result) g.new mapping.new ≡ retain_call g.old keep.now mapping.old }
 {

@@ -13,6 +13,7 @@ pub(crate) fn id_of(field: &[u8; 2]) -> u64
 }
 
 // A number of 16 bytes.
+#[tactic(auto, using(crate::proofs::Little::little_16), unfolding(word::specs::Value::val))]
 pub(crate) fn word_of(field: &[u8; 16]) -> Word
     ensures { val result ≡ little field.now }
 {

@@ -75,6 +75,7 @@ fn retain_listed(g: &mut Region, mapping: &mut [u64], keep: &[u8]) -> Result<u64
 }
 
 // What a tag and a body ask for.
+#[tactic(auto, using(crate::proofs::Steps::answered_step, crate::proofs::Steps::kept_step, crate::proofs::Steps::bad_step), unfolding(crate::specs::Perform::done_by))]
 fn perform_body(g: &mut Region, mapping: &mut [u64], tag: u8, body: &[u8], line: &mut [u8]) -> Step
     requires { (is_graph g.old ≡ true) × (LINE ≤ length line.old) }
     ensures { left (progress_of (Some result)) g.new mapping.new line.new ≡ written line.old (done_by (request_in_graph g.old) (retain_in_graph g.old) g.old mapping.old (asked_in tag body.now)) }
@@ -90,6 +91,7 @@ fn perform_body(g: &mut Region, mapping: &mut [u64], tag: u8, body: &[u8], line:
     Step::Line(put_answer(answer, line))
 }
 
+#[tactic(auto, using(crate::proofs::Parts::part_from, crate::proofs::Steps::bad_step), unfolding(crate::specs::Perform::record_in_graph, crate::specs::Perform::effect_in_graph, crate::specs::Record::asked, crate::specs::Perform::done_by))]
 pub fn perform_in_graph(
     g: &mut Region,
     mapping: &mut [u64],
@@ -120,6 +122,7 @@ fn is_record(bytes: &[u8]) -> bool
 }
 
 // On a region that is no graph whatever is asked for is refused; a bad record comes before that.
+#[tactic(auto, unfolding(crate::specs::Perform::record_call))]
 fn refuse(bytes: &[u8], line: &mut [u8]) -> Option<Step>
     ensures { (g m : List ℕ) → is_graph g ≡ false → left (progress_of result) g m line.new ≡ record_call g m bytes.now line.old }
 {
@@ -133,6 +136,7 @@ fn refuse(bytes: &[u8], line: &mut [u8]) -> Option<Step>
     }
 }
 
+#[tactic(auto, using(crate::proofs::Steps::record_in_graph_lem), unfolding(graph::specs::WellFormed::is_graph))]
 pub fn perform(g: &mut [u64], mapping: &mut [u64], bytes: &[u8], line: &mut [u8]) -> Option<Step>
     ensures { left (progress_of result) g.new mapping.new line.new ≡ record_call g.old mapping.old bytes.now line.old }
 {

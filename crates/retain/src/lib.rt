@@ -28,6 +28,7 @@ fn renumbered(mapping: &[u64], is_operand: bool, word: u64) -> u64
 }
 
 // The words of a node with its operands' new ids, without an alias. Word by word, since a node past the region reads 0.
+#[tactic(auto, unfolding(crate::specs::Retain::moved_words))]
 fn moved_words(g: &Region, mapping: &[u64], node: u64) -> [u64; SIZE]
     ensures { result ≡ moved_words (λ i. get_or mapping.now i DROPPED) g.now node }
 {
@@ -67,6 +68,7 @@ fn place(g: &mut Region, keep: &[u8], mapping: &mut [u64], node: u64, next: u64)
 }
 
 // Moves the kept nodes down and fills the mapping; the number of nodes left. An operand lies below its node, so that its new id is known.
+#[tactic(auto, using(graph::proofs::Grown::graph_facts, crate::proofs::Operands::keep_list_facts, crate::proofs::Moving::kept_le, crate::proofs::Moving::moving_begins, crate::proofs::Moving::moving_past))]
 pub fn retain(g: &mut Region, keep: &[u8], mapping: &mut [u64]) -> u64
     requires { (is_graph g.old ≡ true) × (is_keep_list g.old keep.now mapping.old ≡ true) }
     ensures { (result ≡ kept_below keep.now (count_of g.old)) × (g.new ≡ retained g.old keep.now) × (mapping.new ≡ new_ids keep.now (count_of g.old)) }

@@ -4,8 +4,7 @@ use Prim.Native.Nat.{ℕ, suc, ◌+◌, ◌-◌}
 use native.Mathlib.Numerals.{add-one}
 use native.Mathlib.Omega.{arith}
 use lib.ListN.{set, replicate}
-use Rattle.graph.specs.Layout.{X, WORDS, word_at, words_from}
-use Rattle.retain.specs.Retain.{moved_words}
+use Rattle.graph.specs.Layout.{WORDS, word_at, words_from}
 use Rattle.retain.proofs.Moving.{filled}
 use Rattle.retain.proofs.moved_words.Goals as goal
 
@@ -22,22 +21,3 @@ loop-k-preserved c =
     ∙ (λ i. set (front l.k ++ replicate (r i) 0) l.k (word (z i)))
     ∙ filled a.g.now a.node 0 l.k (WORDS - (l.k + 1))
     ∙ ap (λ (m : ℕ). front m ++ replicate (WORDS - (l.k + 1)) 0) (sym (add-one l.k))
-
-pub returns : goal.returns
-unfolding moved_words
-returns c =
-    let a = c.args in
-    let l = c.loop-k in
-    let e : l.k ≡ X = omega arith in
-    let w : l.words ≡ words_from a.g.now a.node 0 X ++ replicate (WORDS - X) 0 =
-    l.invariant ∙ ap (λ (m : ℕ). words_from a.g.now a.node 0 m ++ replicate (WORDS - m) 0) e in
-    simp (
-      w,
-      c.renumbered.ensures,
-      c.has_first.ensures,
-      c.word_at-2.ensures,
-      c.renumbered-2.ensures,
-      c.has_second.ensures,
-      c.word_at-3.ensures,
-      c.word_at-4.ensures,
-    )

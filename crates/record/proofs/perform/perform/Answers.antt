@@ -1,18 +1,7 @@
 -- `record::perform::perform` meets its contract: a graph, or a region on which what is asked for is refused. Assumes nothing.
 use mathlib.Core.Path.{sym, ◌∙◌}
-use borrow.Author.Tests.{ne_eqb}
-use Rattle.graph.specs.Layout.{REGION}
 use Rattle.graph.specs.WellFormed.{is_graph}
-use Rattle.record.proofs.Steps.{record_in_graph_lem}
 use Rattle.record.proofs.perform.perform.Goals as goal
-
-pub returns-in_default : goal.returns-in_default
-unfolding is_graph
-returns-in_default c = c.refuse.ensures _ _ (rw (ne_eqb _ REGION c.in_default.ensures.cases))
-
-pub returns-then-is_graph : goal.returns-then-is_graph
-returns-then-is_graph c =
-    rw (← c.in-Some.ensures.cases.same) (c.perform_in_graph.ensures ∙ record_in_graph_lem _ _ _ _ (sym c.is_graph.ensures ∙ c.if-is_graph.true))
 
 pub returns-else-is_graph : goal.returns-else-is_graph
 returns-else-is_graph c =

@@ -1,13 +1,7 @@
 -- `record::perform::refuse` meets its contract: a refusal or a bad record, where there is room for a line. Assumes nothing.
 use mathlib.Core.Path.{sym, ◌∙◌}
-use borrow.Author.Tests.{lt-leb}
-use Rattle.record.specs.Perform.{record_call}
 use Rattle.record.proofs.Steps.{record_refused, record_bad}
 use Rattle.record.proofs.perform.refuse.Goals as goal
-
-pub returns-then-line-lt-LINE : goal.returns-then-line-lt-LINE
-unfolding record_call
-returns-then-line-lt-LINE c g m e = rw (lt-leb _ _ c.if-line-lt-LINE.true)
 
 pub returns-then-is_record : goal.returns-then-is_record
 returns-then-is_record c g m e =
