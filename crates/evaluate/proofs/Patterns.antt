@@ -3,7 +3,6 @@ use mathlib.Core.Path.{◌≡◌, refl, sym, ap, ◌∙◌}
 use mathlib.Core.Logic.{⊎_elim}
 use Prim.Native.Nat.{ℕ, min, ◌-◌, ◌%◌, ◌^◌, ◌<◌, ◌≤◌}
 use native.Mathlib.Nat.{le_of_lt, le_trans, lt_of_lt_of_le, min-le_right, min-eq_left, min-eq_right, mod-eq_of_lt}
-use native.Mathlib.Omega.{arith}
 use lib.Bits.{bit_and, and_mask}
 use lib.Pow.{pow_mono}
 use Rattle.std.specs.Prelude.{Option, None, Some}

@@ -65,20 +65,14 @@ fn is_view(op: Unary, ty: ScalarType, range: Option<Range>) -> bool
 fn add_or_none(ty: ScalarType, derived: Option<Option<Range>>, operation: Operation) -> Plan
     ensures { plan_of result ≡ add_or ty (derived_of derived) (op_of operation) }
 {
-    match derived {
-        Some(range) => Plan::Add(range, operation, ty),
-        None => Plan::None,
-    }
+    derived.map_or(Plan::None, |range| Plan::Add(range, operation, ty))
 }
 
 // A constant, or None without a value.
 pub fn constant_or_none(ty: ScalarType, value: Option<Word>) -> Plan
     ensures { plan_of result ≡ constant_or ty (number_of value) }
 {
-    match value {
-        Some(constant) => Plan::Constant(constant, ty),
-        None => Plan::None,
-    }
+    value.map_or(Plan::None, |constant| Plan::Constant(constant, ty))
 }
 
 // unary after modular: the value itself, or a node.

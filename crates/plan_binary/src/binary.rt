@@ -99,16 +99,10 @@ fn decided_plan(g: &Region, node: BinaryNode) -> Option<Plan>
 fn store_plan(node: BinaryNode, decided: Option<Plan>, derived: Option<Option<Range>>) -> Plan
     ensures { plan_of result ≡ store_plan node.ty node.op node.left.0 node.right.0 (decided_of decided) (derived_of derived) }
 {
-    let Some(range) = derived else {
-        return Plan::None;
-    };
-    match decided {
-        Some(plan) => plan,
-        None => {
-            let operation = Operation::Binary(node.op, node.left, node.right);
-            Plan::Add(range, operation, node.ty)
-        }
-    }
+    let operation = Operation::Binary(node.op, node.left, node.right);
+    derived.map_or(Plan::None, |range| {
+        decided.unwrap_or(Plan::Add(range, operation, node.ty))
+    })
 }
 
 // binary after the masked comparison.

@@ -73,10 +73,10 @@ fn right_plan(node: BinaryNode, value: Word) -> Option<Plan>
 fn merged_plan(ty: ScalarType, op: Binary, base: NodeId, value: Option<Word>) -> Plan
     ensures { plan_of result ≡ merged_plan ty op base.0 (number_of value) }
 {
-    match value {
-        Some(constant) => Plan::ConstantBinary(constant, base, ty, ty, op),
-        None => Plan::None,
-    }
+    value.map_or(
+        Plan::None,
+        |constant| Plan::ConstantBinary(constant, base, ty, ty, op),
+    )
 }
 
 // An operation by a constant of an operation by a constant.
