@@ -103,7 +103,7 @@ pub fn type_of(code: u64, width: u16) -> Option<ScalarType>
     }
 }
 
-// The unary operator of a code; BoolNot for a code that is none's.
+// The unary operator of a code; BoolNot for a code that is none's. No `TryFrom`: a region of any content is read, where no code is refused.
 pub fn unary_of(code: u64, width: u16) -> Unary
     ensures { result ≡ unary_of code width }
 {

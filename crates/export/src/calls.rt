@@ -1,6 +1,6 @@
 // The requests for C and Rust: a type is its code and width, an operator its code, an answer its number.
 // Each stands in two tiers. `.._in_graph` does not ask question 1: it is for a caller that knows the region to be a graph, as every call leaves it.
-// On another region nothing is promised of it, not even that it touches lent words alone.
+// On another region nothing is promised of it, not even that it touches lent words alone. C lends words: what they are can stand in a clause alone.
 ghost use Rattle.std.specs.Prelude.{true, ◌≡◌};
 ghost use Rattle.graph.specs.Node.{pair, range_of};
 ghost use Rattle.graph.specs.WellFormed.{is_graph};

@@ -1,4 +1,4 @@
-// Marks for C and Rust: a mark is its number, Done and refusals are as in every answer.
+// Marks for C and Rust: a mark is its number, Done and refusals are as in every answer. What lent words are is a clause, as in calls.rt.
 ghost use Rattle.std.specs.Prelude.{true, ◌≡◌};
 ghost use Rattle.word.specs.Option.{from_bool};
 ghost use Rattle.mark.specs.WellFormed.{is_marked};

@@ -1,5 +1,5 @@
 // The calls that read, for C and Rust: what they find goes into a lent slice, and the answer is 1. A slice of another length is answered
-// WRONG_LENGTH. `.._in_graph` does not ask question 1: on a region that is no graph nothing is promised of it.
+// WRONG_LENGTH. `.._in_graph` does not ask question 1: on a region that is no graph nothing is promised of it, a clause as in calls.rt.
 ghost use Rattle.std.specs.Prelude.{true, ◌≡◌, length, ◌<◌, ◌/◌, ◌%◌, ◌^◌, [], ◌∷◌};
 ghost use Rattle.word.specs.Value.{val};
 ghost use Rattle.word.specs.Option.{from_bool};

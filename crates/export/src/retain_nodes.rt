@@ -1,4 +1,4 @@
-// The call of retain for C and Rust: the nodes left, or a refusal counted down from the largest number.
+// The call of retain for C and Rust: the nodes left, or a refusal counted down from the largest number. What lent words are is a clause, as in calls.rt.
 ghost use Rattle.std.specs.Prelude.{true, ◌≡◌};
 ghost use Rattle.mark.specs.WellFormed.{is_marked};
 ghost use Rattle.mark.specs.Mark.{retain_in_graph, retain_call};

@@ -17,7 +17,8 @@ pub fn clear_to(g: &mut Region, nodes: u64, count: u64)
     g[from..end].fill(0);
 }
 
-// The same whatever the words past the nodes are.
+// The same whatever the words past the nodes are. The bound is a clause here and where a call takes back what it did: the numbers are the region's own counts, and a
+// type for them would be made at each call, with the proof that the clause takes.
 pub fn clear_from(g: &mut Region, nodes: u64)
     requires { nodes ≤ LIMIT }
     ensures { g.new ≡ cleared nodes g.old }

@@ -1,4 +1,5 @@
-// Reading a node: total on every region of the right length.
+// Reading a node: total on every region of the right length. What its numbers stand for is told here alone; one that names nothing is read as something, since
+// a region of any content is.
 ghost use Rattle.std.specs.Prelude.{◌≡◌, ◌%◌, ◌^◌, length};
 ghost use Rattle.word.specs.Value.{val, number_of};
 ghost use Rattle.range.specs.Interval.{interval_of};

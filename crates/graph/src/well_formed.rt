@@ -1,4 +1,4 @@
-// Question 1: is the region a graph?
+// Question 1: is the region a graph? It is asked of the numbers in it, which may be any: no types and operations stand for them yet.
 ghost use Rattle.std.specs.Prelude.{◌≡◌, true, false, drop, MatchOption};
 ghost use Rattle.word.specs.Value.{val};
 ghost use Rattle.graph.specs.Layout.{REGION};

@@ -1,5 +1,5 @@
 // The calls mark and return_to. `.._in_graph` is for a caller that knows the regions to be a graph with its marks, as question 1 asks:
-// on other regions nothing is promised.
+// on other regions nothing is promised. The fact is a clause, as in native/src/perform.rt.
 ghost use Rattle.std.specs.Prelude.{true, ◌≡◌};
 ghost use Rattle.native.specs.Call.{answer_of};
 ghost use Rattle.mark.specs.WellFormed.{is_marked};

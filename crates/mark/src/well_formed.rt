@@ -8,7 +8,7 @@ use crate::layout::{FIRST, MOST, Marks, SPAN, standing};
 use graph::layout::{NODES, count};
 use graph::well_formed::{as_graph, is_alias};
 
-// Are the first words alias words of a graph of so many nodes?
+// Are the first words alias words of a graph of so many nodes? The number is no length: a mark has a word for each node that there can be.
 fn are_aliases(words: &[u64], nodes: u64) -> bool
     requires { nodes ≤ length words.now }
     ensures { result ≡ are_aliases words.now nodes }

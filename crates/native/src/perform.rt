@@ -131,6 +131,8 @@ fn perform(g: &mut Region, request: Request, full: Refusal) -> Result<Answer, Re
 }
 
 // For a caller that knows the region to be a graph: question 1 is not asked. On another region nothing is promised.
+// The fact is a clause in every `.._in_graph`: a struct that holds the region with it has to show it again after the call, and that a builder leaves every graph a
+// graph is proved of grown graphs alone (`grown-graph` in meaning/proofs/Demand3.antt).
 #[tactic(auto, unfolding(crate::specs::Perform::request_in_graph))]
 pub fn call_in_graph(g: &mut Region, request: Request) -> Result<Answer, Refusal>
     requires { is_graph g.old ≡ true }
@@ -143,9 +145,7 @@ pub fn call_in_graph(g: &mut Region, request: Request) -> Result<Answer, Refusal
 pub fn call(g: &mut [u64], request: Request) -> Result<Answer, Refusal>
     ensures { called (answer_of result) g.new ≡ request_call g.old (request_of request) }
 {
-    let Some(region) = g.as_mut_array() else {
-        return Err(Refusal::Graph);
-    };
+    let region = g.as_mut_array().ok_or(Refusal::Graph)?;
     if is_graph(region) {
         call_in_graph(region, request)
     } else {

@@ -1,5 +1,5 @@
 // The calls that read: literal, resolve and guard. Each `.._in_graph` is for a caller that knows the region to be a graph: on another
-// region nothing is promised of it.
+// region nothing is promised of it. The fact is a clause, as in the calls that write (perform.rt).
 ghost use Rattle.std.specs.Prelude.{true, ◌≡◌};
 ghost use Rattle.evaluate.specs.Answer.{outcome_of};
 ghost use Rattle.graph.specs.WellFormed.{is_graph};
@@ -33,9 +33,7 @@ pub fn literal_in_graph(g: &Region, id: NodeId) -> Result<Option<Word>, Refusal>
 pub fn literal(g: &[u64], id: NodeId) -> Result<Option<Word>, Refusal>
     ensures { outcome_of result ≡ literal_call g.now id.0 }
 {
-    let Some(region) = as_graph(g) else {
-        return Err(Refusal::Graph);
-    };
+    let region = as_graph(g).ok_or(Refusal::Graph)?;
     literal_in_graph(region, id)
 }
 
@@ -56,9 +54,7 @@ pub fn resolve_in_graph(g: &Region, id: NodeId) -> Result<Answer, Refusal>
 pub fn resolve(g: &[u64], id: NodeId) -> Result<Answer, Refusal>
     ensures { answer_of result ≡ resolve_call g.now id.0 }
 {
-    let Some(region) = as_graph(g) else {
-        return Err(Refusal::Graph);
-    };
+    let region = as_graph(g).ok_or(Refusal::Graph)?;
     resolve_in_graph(region, id)
 }
 
@@ -85,8 +81,6 @@ pub fn guard_in_graph(
 pub fn guard(g: &[u64], condition: NodeId, expected: bool) -> Result<Option<Guard>, Refusal>
     ensures { reading_of result ≡ guard_call g.now condition.0 expected }
 {
-    let Some(region) = as_graph(g) else {
-        return Err(Refusal::Graph);
-    };
+    let region = as_graph(g).ok_or(Refusal::Graph)?;
     guard_in_graph(region, condition, expected)
 }

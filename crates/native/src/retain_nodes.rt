@@ -1,5 +1,5 @@
 // Retain on a graph's region alone, for a caller that has no marks' region, so that no mark stands; with one it is `mark::retain_nodes`.
-// `.._in_graph` is for a caller that knows the region to be a graph: on another region nothing is promised.
+// `.._in_graph` is for a caller that knows the region to be a graph, as `call_in_graph` (perform.rt) says.
 ghost use Rattle.std.specs.Prelude.{true, ◌≡◌};
 ghost use Rattle.graph.specs.WellFormed.{is_graph};
 ghost use Rattle.native.specs.Retain.{outcome_of, retention, retain_in_graph, retain_call};
@@ -29,9 +29,7 @@ pub fn retain_unmarked_in_graph(
 pub fn retain_unmarked(g: &mut [u64], keep: &[u8], mapping: &mut [u64]) -> Result<u64, Refusal>
     ensures { retention (outcome_of result) g.new mapping.new ≡ retain_call g.old keep.now mapping.old }
 {
-    let Some(region) = g.as_mut_array() else {
-        return Err(Refusal::Graph);
-    };
+    let region = g.as_mut_array().ok_or(Refusal::Graph)?;
     if is_graph(region) {
         retain_unmarked_in_graph(region, keep, mapping)
     } else {

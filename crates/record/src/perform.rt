@@ -1,5 +1,5 @@
-// One record: the call that it asks for, and its line. `.._in_graph` is for a caller that knows the region to be a graph: on another
-// region nothing is promised.
+// One record: the call that it asks for, and its line. `.._in_graph` is for a caller that knows the region to be a graph, as `call_in_graph`
+// (native/src/perform.rt) says.
 ghost use Rattle.std.specs.Prelude.{List, ℕ, Some, true, false, ◌≡◌, min, ◌≤◌, length, take};
 ghost use Rattle.word.specs.Option.{is_some};
 ghost use Rattle.graph.specs.WellFormed.{is_graph};

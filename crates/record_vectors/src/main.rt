@@ -47,7 +47,7 @@ fn tell(g: &mut Region, mapping: &mut [u64; NODES], bytes: &[u8], line: &mut [u8
     }
 }
 
-// The lines of a stream but the last, and how many bytes they have.
+// The lines of a stream but the last, and how many bytes they have. A loop by hand: each record says where the next one begins.
 fn put_lines(g: &mut Region, mapping: &mut [u64; NODES], stream: &[u8], out: &mut [u8]) -> usize
     ensures { result ≤ length out.old }
 {

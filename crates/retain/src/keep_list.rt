@@ -35,6 +35,7 @@ fn are_operands_kept(g: &Region, keep: &[u8], node: u64) -> bool
             && (!has_second(code) || is_kept(keep, word_at(g, node, Y))))
 }
 
+// A node may be kept if its operands are. An element is a number of any value.
 fn is_allowed(g: &Region, keep: &[u8], node: u64) -> bool
     requires { node < length keep.now }
     ensures { result ≡ is_allowed g.now keep.now node }

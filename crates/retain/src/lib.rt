@@ -68,6 +68,7 @@ fn place(g: &mut Region, keep: &[u8], mapping: &mut [u64], node: u64, next: u64)
 }
 
 // Moves the kept nodes down and fills the mapping; the number of nodes left. An operand lies below its node, so that its new id is known.
+// That the region is a graph is a clause, as in the calls that hand it on (native/src/perform.rt).
 #[tactic(auto, using(graph::proofs::Grown::graph_facts, crate::proofs::Operands::keep_list_facts, crate::proofs::Moving::kept_le, crate::proofs::Moving::moving_begins, crate::proofs::Moving::moving_past))]
 pub fn retain(g: &mut Region, keep: &[u8], mapping: &mut [u64]) -> u64
     requires { (is_graph g.old ≡ true) × (is_keep_list g.old keep.now mapping.old ≡ true) }

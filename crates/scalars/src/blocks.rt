@@ -56,7 +56,7 @@ impl Memory {
         Some(One { len, step })
     }
 
-    // The whole records at the start of a block, as long as there is room for their lines.
+    // The whole records at the start of a block, as long as there is room for their lines. No `for`: each record says where the next one begins.
     fn run_records(&mut self, input: &[u8], out: &mut [u8]) -> Ran
         ensures through { Through self.old.graph self.old.mapping input.now out.old result.read result.written result.over self.new.graph self.new.mapping out.new }
         ensures stops { Stops input.now out.new result.read result.written result.over }
