@@ -12,7 +12,7 @@ use crate::read::resolve;
 use crate::{NodeId, Operation, Unbuilt};
 use range::{Range, ScalarType};
 
-// Are the words from `at` on the node's key, one by one?
+// Are the words from `at` on the node's key, one by one? Not by `==` of the slices: 54 instructions more for a node that is found, 30 for a new one.
 fn same_words(g: &[u64], at: usize, words: &[u64; SIZE]) -> bool
     requires { at + KEY ≤ length g.now }
     ensures { result ≡ same_words g.now at (take KEY words.now) }
