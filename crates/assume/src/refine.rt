@@ -11,7 +11,7 @@ use graph::alias::set_alias;
 use graph::insert::insert;
 use graph::layout::{LIMIT, Region};
 use graph::read::{range_at, resolve, type_at};
-use graph::{Built, NodeId, Operation};
+use graph::{NodeId, Operation};
 use range::Range;
 
 // The Refine that is stored or found becomes the node's alias.
@@ -19,7 +19,7 @@ fn narrow(g: &mut Region, node: NodeId, range: Range) -> Result<Option<Next>, Fu
     ensures { narrowing_of result g.new ≡ narrow g.old node.0 (bounds_of range) }
 {
     let ty = type_at(g, node);
-    let Built::Id(found) = insert(g, ty, Some(range), Operation::Refine(node)) else {
+    let Ok(found) = insert(g, ty, Some(range), Operation::Refine(node)) else {
         return Err(Full);
     };
     set_alias(g, node, found);

@@ -42,7 +42,7 @@ fn keeps(base: NodeId, width: u16, value: Word, shape: ByConstant) -> bool
     ensures { result ≡ keeps base.0 width (val value) (one_by_constant_of shape) }
 {
     shape.op == Binary::And
-        && shape.base.0 == base.0
+        && shape.base == base
         && (value & shape.value).is_zero()
         && value <= mask(width)
 }

@@ -26,7 +26,7 @@ fn power(index: u16) -> Word
 fn is_base(base: Option<NodeId>, id: NodeId) -> bool
     ensures { result ≡ same_base (id_of base) id.0 }
 {
-    base.is_none_or(|other| other.0 == id.0)
+    base.is_none_or(|other| other == id)
 }
 
 // A literal with this bit at its place.

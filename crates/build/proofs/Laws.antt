@@ -13,9 +13,10 @@ use Rattle.evaluate.specs.declared.Binary.TheVariants as bi
 use Rattle.evaluate.specs.Evaluate.{reduced}
 use Rattle.evaluate.specs.U128 as u128
 use Rattle.graph.specs.Node as node
+use Rattle.std.specs.Prelude.{Result, Ok, Err}
 use Rattle.graph.specs.Insert.{Reply, id, nothing, room, units, built_of, inserted, constant, constant_interval}
-use Rattle.graph.specs.declared.Built.{Built}
-use Rattle.graph.specs.declared.Built.TheVariants as built
+use Rattle.graph.specs.declared.Unbuilt.{Unbuilt}
+use Rattle.graph.specs.declared.Unbuilt.TheVariants as unbuilt
 use Rattle.graph.specs.declared.NodeId.{NodeId}
 use Rattle.build.specs.declared.step.MaskedNode.{MaskedNode}
 use Rattle.build.specs.declared.step.Start.{Start}
@@ -206,19 +207,12 @@ try_stop v w u k g e s = rw (build_step (modular v w) u g e, is_stop_lem (modula
 
 -- ---- what an answer is not
 
--- an answer that is no id ends a program: what the `else` of `let Built::Id(..) = .. else` knows
-pub on_id-stop : (b : Built) (u : ℕ) (g : List ℕ) (k : ℕ → ℕ → List ℕ → Out) → ((x : NodeId) → b ≡ built.Id x → ⊥) → on_id (built_of b) u g k ≡ out (built_of b) u g
-on_id-stop (built.Id x) u g k h = absurd (h x refl)
-on_id-stop built.None u g k h = refl
-on_id-stop built.Room u g k h = refl
-on_id-stop built.Units u g k h = refl
-
--- the same of one that is tried, where an answer that is not None ends it
-pub on_nothing-stop : (b : Built) (u : ℕ) (g : List ℕ) (k : ℕ → List ℕ → Out) → (b ≡ built.None → ⊥) → on_nothing (built_of b) u g k ≡ out (built_of b) u g
-on_nothing-stop (built.Id x) u g k h = refl
-on_nothing-stop built.None u g k h = absurd (h refl)
-on_nothing-stop built.Room u g k h = refl
-on_nothing-stop built.Units u g k h = refl
+-- an answer that is no id ends a program: what the `else` of `let Ok(..) = .. else` knows
+pub on_id-stop : (b : Result NodeId Unbuilt) (u : ℕ) (g : List ℕ) (k : ℕ → ℕ → List ℕ → Out) → ((x : NodeId) → b ≡ Ok x → ⊥) → on_id (built_of b) u g k ≡ out (built_of b) u g
+on_id-stop (Ok x) u g k h = absurd (h x refl)
+on_id-stop (Err unbuilt.None) u g k h = refl
+on_id-stop (Err unbuilt.Room) u g k h = refl
+on_id-stop (Err unbuilt.Units) u g k h = refl
 
 on_out_twice : (o : Out) (k : ℕ → ℕ → List ℕ → Out) → on_out (on_out o (λ n v h. out (id n) v h)) k ≡ on_out o k
 on_out_twice o k = ap (λ (q : Out). on_out q k) (on_out-tail o)

@@ -3,7 +3,7 @@ use Prim.Native.Nat.{ℕ, zero, suc, ◌+◌, ◌-◌}
 use mathlib.Core.Path.{◌≡◌, refl, ap, ◌∙◌}
 use mathlib.Core.Bool.{Bool, true, false, cond, false≢true, ◌&&◌, ◌||◌}
 use mathlib.Core.List.{List}
-use Rattle.std.specs.Prelude.{Option, None, Some}
+use Rattle.std.specs.Prelude.{Option, None, Some, Result, Ok, Err}
 use lib.Dec.{eqb, ltb, leb}
 use Rattle.word.specs.Value.{residue}
 use Rattle.word.specs.Option.{only, provided, given}
@@ -18,8 +18,8 @@ use Rattle.graph.specs.Layout.{LIMIT, count_of}
 use Rattle.graph.specs.Node as node
 use Rattle.graph.specs.Node.{Op, words_of, type_at, range_at, operation_at}
 use Rattle.graph.specs.Insert.{Reply, id, nothing, room, units, Made, literal, built_of, resolve, interned, appended, found_or, inserted, constant, constant_interval}
-use Rattle.graph.specs.declared.Built.{Built}
-use Rattle.graph.specs.declared.Built.TheVariants as built
+use Rattle.graph.specs.declared.Unbuilt.{Unbuilt}
+use Rattle.graph.specs.declared.Unbuilt.TheVariants as unbuilt
 use Rattle.graph.specs.declared.NodeId.{NodeId}
 use Rattle.fold.specs.Shape.{same_type, fits}
 use Rattle.plan.specs.Plan as plan
@@ -61,12 +61,12 @@ unfolding constant
 constant_answers g t v = inserted-some g t (constant_interval t (reduced t v)) (node.constant (reduced t v))
 
 -- where no node is answered and not None, a program that is tried ends, and its builder with it
-pub masked-stop : (b : Built) (u : ℕ) (g : List ℕ) (k : ℕ → ℕ → List ℕ → Out) (j : ℕ → List ℕ → Out) → ((x : NodeId) → b ≡ built.Id x → ⊥) → IsSome (built_of b) →
+pub masked-stop : (b : Result NodeId Unbuilt) (u : ℕ) (g : List ℕ) (k : ℕ → ℕ → List ℕ → Out) (j : ℕ → List ℕ → Out) → ((x : NodeId) → b ≡ Ok x → ⊥) → IsSome (built_of b) →
     on_none (on_id (built_of b) u g k) j ≡ out (built_of b) u g
-masked-stop (built.Id x) u g k j h s = absurd (h x refl)
-masked-stop built.None u g k j h s = elim s [ ]
-masked-stop built.Room u g k j h s = refl
-masked-stop built.Units u g k j h s = refl
+masked-stop (Ok x) u g k j h s = absurd (h x refl)
+masked-stop (Err unbuilt.None) u g k j h s = elim s [ ]
+masked-stop (Err unbuilt.Room) u g k j h s = refl
+masked-stop (Err unbuilt.Units) u g k j h s = refl
 
 on_id-some : (a : Reply) (u : ℕ) (g : List ℕ) (k : ℕ → ℕ → List ℕ → Out) → IsSome a → ((n v : ℕ) (h : List ℕ) → IsSome (reply (k n v h))) → IsSome (reply (on_id a u g k))
 on_id-some (id n) u g k s f = f n u g

@@ -17,7 +17,7 @@ use crate::step::{MaskedNode, Next, Start, step};
 use evaluate::{Binary, Unary};
 use graph::layout::Region;
 use graph::leaf::constant;
-use graph::{Built, NodeId};
+use graph::{NodeId, Unbuilt};
 use plan::Rest;
 use plan::one_operand::has_modular_plan;
 use range::ScalarType;
@@ -32,7 +32,7 @@ pub struct Budget {
 // A builder's answer, and what is left.
 #[derive(Clone, Copy)]
 pub struct Done {
-    pub built: Built,
+    pub built: Result<NodeId, Unbuilt>,
     pub budget: Budget,
 }
 
@@ -40,7 +40,7 @@ fn spent() -> Done
     ensures { (built_of result.built ≡ units) × (result.budget.units ≡ 0) }
 {
     Done {
-        built: Built::Units,
+        built: Err(Unbuilt::Units),
         budget: Budget { units: 0 },
     }
 }
@@ -129,7 +129,7 @@ fn try_modular(g: &mut Region, budget: Budget, value: NodeId, width: u16, rest: 
     }
     let left = if has_modular_plan(g, value, width) {
         let tried = modular(g, budget, value, width);
-        let Built::None = tried.built else {
+        let Err(Unbuilt::None) = tried.built else {
             return tried;
         };
         tried.budget
@@ -147,7 +147,7 @@ fn try_masked(g: &mut Region, budget: Budget, masked: MaskedNode, rest: Rest) ->
     ensures { out (built_of result.built) result.budget.units g.new ≡ exec build (tries (masked_prog masked) (rest_prog rest)) budget.units g.old }
 {
     let tried = masked_operation(g, budget, masked);
-    let Built::None = tried.built else {
+    let Err(Unbuilt::None) = tried.built else {
         return tried;
     };
     go_on(g, tried.budget, rest)
@@ -201,7 +201,7 @@ pub(crate) fn constant_binary(
     ensures { out (built_of result.built) result.budget.units g.new ≡ exec build (by_constant kind (val value) ty op base.0) budget.units g.old }
 {
     match constant(g, kind, value) {
-        Built::Id(right) => binary(g, budget, ty, op, base, right),
+        Ok(right) => binary(g, budget, ty, op, base, right),
         built => Done { built, budget },
     }
 }
@@ -218,7 +218,7 @@ fn slice_identity(
     ensures { out (built_of result.built) result.budget.units g.new ≡ exec build (plan_prog (plan.slice_identity base.0 offset width ty)) budget.units g.old }
 {
     let part = slice(g, budget, base, offset, width);
-    let Built::Id(value) = part.built else {
+    let Ok(value) = part.built else {
         return part;
     };
     identity(g, part.budget, ty, value)
@@ -236,7 +236,7 @@ fn slice_shift(
     ensures { out (built_of result.built) result.budget.units g.new ≡ exec build (plan_prog (plan.slice_shift base.0 width ty (val count))) budget.units g.old }
 {
     let part = slice(g, budget, base, 0, width);
-    let Built::Id(value) = part.built else {
+    let Ok(value) = part.built else {
         return part;
     };
     constant_binary(
@@ -262,7 +262,7 @@ fn and_or(
     ensures { out (built_of result.built) result.budget.units g.new ≡ exec build (plan_prog (plan.and_or ty base.0 mask.0 (val value))) budget.units g.old }
 {
     let masked = binary(g, budget, ty, Binary::And, base, mask);
-    let Built::Id(kept) = masked.built else {
+    let Ok(kept) = masked.built else {
         return masked;
     };
     constant_binary(g, masked.budget, ty, value, ty, Binary::Or, kept)
@@ -281,11 +281,11 @@ fn truncated(
 {
     let ty = ScalarType::Bits(width);
     let first = unary(g, budget, ty, Unary::Truncate(width), left);
-    let Built::Id(a) = first.built else {
+    let Ok(a) = first.built else {
         return first;
     };
     let second = unary(g, first.budget, ty, Unary::Truncate(width), right);
-    let Built::Id(b) = second.built else {
+    let Ok(b) = second.built else {
         return second;
     };
     binary(g, second.budget, ty, op, a, b)
@@ -305,11 +305,11 @@ fn split_concat(
     ensures { out (built_of result.built) result.budget.units g.new ≡ exec build (plan_prog (plan.split_concat low.0 offset low_width high.0 high_width width)) budget.units g.old }
 {
     let first = slice(g, budget, low, offset, low_width);
-    let Built::Id(lower) = first.built else {
+    let Ok(lower) = first.built else {
         return first;
     };
     let second = slice(g, first.budget, high, 0, high_width);
-    let Built::Id(upper) = second.built else {
+    let Ok(upper) = second.built else {
         return second;
     };
     concat(g, second.budget, upper, lower, low_width, width)
@@ -329,7 +329,7 @@ fn masked_operation(g: &mut Region, budget: Budget, masked: MaskedNode) -> Done
         op,
     } = masked;
     let kept = binary(g, budget, ty, Binary::And, base, mask);
-    let Built::Id(value) = kept.built else {
+    let Ok(value) = kept.built else {
         return kept;
     };
     constant_binary(g, kept.budget, ty, literal, result, op, value)

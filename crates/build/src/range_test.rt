@@ -8,7 +8,7 @@ use crate::{Budget, Done, constant_binary};
 use evaluate::Binary;
 use graph::layout::Region;
 use graph::read::type_at;
-use graph::{Built, NodeId};
+use graph::{NodeId, Unbuilt};
 use range::ScalarType;
 use range::typed::mask;
 use word::Word;
@@ -33,7 +33,7 @@ fn difference_test(
     ensures { out (built_of result.built) result.budget.units g.new ≡ exec build (range_prog ty value.0 (val low) (val high)) budget.units g.old }
 {
     let offset = constant_binary(g, budget, ty, low, ty, Binary::Sub, value);
-    let Built::Id(difference) = offset.built else {
+    let Ok(difference) = offset.built else {
         return offset;
     };
     let extent = high.wrapping_sub(low);
@@ -57,7 +57,7 @@ pub fn unsigned_range(g: &mut Region, budget: Budget, value: NodeId, low: Word, 
             difference_test(g, budget, ScalarType::Bits(width), value, low, high)
         }
         _ => Done {
-            built: Built::None,
+            built: Err(Unbuilt::None),
             budget,
         },
     }

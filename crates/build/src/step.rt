@@ -13,7 +13,7 @@ use graph::insert::insert;
 use graph::layout::Region;
 use graph::leaf::constant;
 use graph::read::resolve;
-use graph::{Built, NodeId};
+use graph::{NodeId, Unbuilt};
 use plan::one_operand::{identity_plan, modular_plan, unary_first, unary_plan};
 use plan::{Attempt, First, Plan, Rest};
 use plan_binary::BinaryNode;
@@ -48,7 +48,7 @@ pub(crate) struct MaskedNode {
 // What is left of a builder's work: its answer, or calls of builders.
 #[derive(Clone, Copy)]
 pub(crate) enum Next {
-    Answer(Built),
+    Answer(Result<NodeId, Unbuilt>),
     Identity(NodeId, ScalarType),
     Unary(NodeId, ScalarType, Unary),
     Binary(NodeId, NodeId, ScalarType, Binary),
@@ -132,7 +132,7 @@ fn after_constant(
     ensures { Leaves result g.new (does (constant_binary kind (val value) ty op base.0)) g.old }
 {
     match constant(g, kind, value) {
-        Built::Id(right) => Next::Binary(base, right, ty, op),
+        Ok(right) => Next::Binary(base, right, ty, op),
         built => Next::Answer(built),
     }
 }
@@ -142,8 +142,8 @@ fn begin(g: &mut Region, plan: Plan) -> Next
     ensures { Leaves result g.new (does (plan_of plan)) g.old }
 {
     match plan {
-        Plan::Give(id) => Next::Answer(Built::Id(id)),
-        Plan::None => Next::Answer(Built::None),
+        Plan::Give(id) => Next::Answer(Ok(id)),
+        Plan::None => Next::Answer(Err(Unbuilt::None)),
         Plan::Constant(value, ty) => Next::Answer(constant(g, ty, value)),
         Plan::Add(range, operation, ty) => Next::Answer(insert(g, ty, range, operation)),
         Plan::Identity(value, ty) => Next::Identity(value, ty),
@@ -178,7 +178,7 @@ fn begin_masked(g: &mut Region, fold: Masked, rest: Rest) -> Next
         op,
     } = fold;
     match constant(g, ty, mask) {
-        Built::Id(mask) => {
+        Ok(mask) => {
             let node = MaskedNode {
                 base,
                 mask,

@@ -1,6 +1,6 @@
 -- Interning, resolving, and the builders of leaves, on the words of the region.
 use Rattle.std.specs.Prelude.{Bool, true, false, cond, List, [], ◌∷◌, ℕ, zero, suc, min, max, ◌+◌, ◌-◌, eqb, ltb, get_or, set, take}
-use Rattle.std.specs.Prelude.{Option, None, Some}
+use Rattle.std.specs.Prelude.{Option, None, Some, Result, Ok, Err}
 use Rattle.std.proofs.Math.Seq.{paste}
 use Rattle.word.specs.Value.{is_neg, signed}
 use Rattle.word.specs.Option.{or_else}
@@ -8,8 +8,9 @@ use Rattle.range.specs.Interval.{Interval, point, type_interval}
 use Rattle.range.specs.declared.ScalarType.{ScalarType}
 use Rattle.range.specs.declared.ScalarType.TheVariants as ty
 use Rattle.evaluate.specs.Evaluate.{reduced}
-use Rattle.graph.specs.declared.Built.{Built}
-use Rattle.graph.specs.declared.Built.TheVariants as built
+use Rattle.graph.specs.declared.NodeId.{NodeId}
+use Rattle.graph.specs.declared.Unbuilt.{Unbuilt}
+use Rattle.graph.specs.declared.Unbuilt.TheVariants as unbuilt
 use Rattle.graph.specs.Layout.{WORDS, X, KEY, LIMIT, node_start, count_of}
 use Rattle.graph.specs.Node as node
 use Rattle.graph.specs.Node.{Op, words_of, operation_at, alias_at}
@@ -21,12 +22,12 @@ pub data Reply : Type 0 where
   room : Reply
   units : Reply
 
--- what a Built stands for
-abbrev pub built_of : Built → Reply
-built_of (built.Id i) = id i.0
-built_of built.None = nothing
-built_of built.Room = room
-built_of built.Units = units
+-- what a builder's answer in the code stands for
+abbrev pub built_of : Result NodeId Unbuilt → Reply
+built_of (Ok i) = id i.0
+built_of (Err unbuilt.None) = nothing
+built_of (Err unbuilt.Room) = room
+built_of (Err unbuilt.Units) = units
 
 -- an answer, and the words of the region after the call
 pub record Made : Type 0 where

@@ -7,7 +7,7 @@ ghost use Rattle.graph.specs.Insert.{made, built_of, constant, constant_interval
 
 use crate::insert::insert;
 use crate::layout::Region;
-use crate::{Built, EffectId, InputId, Operation};
+use crate::{EffectId, InputId, NodeId, Operation, Unbuilt};
 use evaluate::pattern::reduced;
 use range::typed::type_range;
 use range::{Range, ScalarType};
@@ -25,7 +25,7 @@ fn constant_range(ty: ScalarType, value: Word) -> Option<Range>
 }
 
 #[tactic(auto, unfolding(crate::specs::Insert::constant))]
-pub fn constant(g: &mut Region, ty: ScalarType, value: Word) -> Built
+pub fn constant(g: &mut Region, ty: ScalarType, value: Word) -> Result<NodeId, Unbuilt>
     ensures { made (built_of result) g.new ≡ constant g.old ty (val value) }
 {
     let low = reduced(ty, value);
@@ -33,7 +33,12 @@ pub fn constant(g: &mut Region, ty: ScalarType, value: Word) -> Built
 }
 
 #[tactic(auto, unfolding(crate::specs::Insert::input))]
-pub fn input(g: &mut Region, id: InputId, ty: ScalarType, range: Option<Range>) -> Built
+pub fn input(
+    g: &mut Region,
+    id: InputId,
+    ty: ScalarType,
+    range: Option<Range>,
+) -> Result<NodeId, Unbuilt>
     ensures { made (built_of result) g.new ≡ input g.old id.0 ty (interval_of range) }
 {
     let range = range.or_else(|| type_range(ty));
@@ -41,7 +46,7 @@ pub fn input(g: &mut Region, id: InputId, ty: ScalarType, range: Option<Range>) 
 }
 
 #[tactic(auto, unfolding(crate::specs::Insert::effect))]
-pub fn effect(g: &mut Region, id: EffectId, ty: ScalarType) -> Built
+pub fn effect(g: &mut Region, id: EffectId, ty: ScalarType) -> Result<NodeId, Unbuilt>
     ensures { made (built_of result) g.new ≡ effect g.old id.0 ty }
 {
     insert(g, ty, type_range(ty), Operation::Effect(id))

@@ -52,10 +52,9 @@ pub struct Node {
     pub operation: Operation,
 }
 
-// What a builder answers: a node, the Rust's None, no room for a node, or no units left.
-#[derive(Clone, Copy)]
-pub enum Built {
-    Id(NodeId),
+// Why a builder gives no node: the Rust's None, no room for a node, or no units left.
+#[derive(Clone, Copy, PartialEq, Eq)]
+pub enum Unbuilt {
     None,
     Room,
     Units,

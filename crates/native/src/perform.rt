@@ -17,7 +17,7 @@ use graph::alias::{restore, save_aliases};
 use graph::clear::clear_from;
 use graph::layout::{NODES, Region, count};
 use graph::well_formed::is_graph;
-use graph::{Built, NodeId, leaf};
+use graph::{NodeId, Unbuilt, leaf};
 use request::Request;
 use request::questions::{are_ids, are_widths, is_declarable, is_typed};
 
@@ -31,14 +31,14 @@ pub(crate) fn full_budget() -> Budget
 }
 
 // A builder's answer to a caller, who says what no room is.
-pub(crate) fn settle(built: Built, full: Refusal) -> Result<Answer, Refusal>
+pub(crate) fn settle(built: Result<NodeId, Unbuilt>, full: Refusal) -> Result<Answer, Refusal>
     ensures { answer_of result ≡ settled full (built_of built) }
 {
     match built {
-        Built::Id(id) => Ok(Answer::Id(id)),
-        Built::None => Ok(Answer::None),
-        Built::Room => Err(full),
-        Built::Units => Err(Refusal::Units),
+        Ok(id) => Ok(Answer::Id(id)),
+        Err(Unbuilt::None) => Ok(Answer::None),
+        Err(Unbuilt::Room) => Err(full),
+        Err(Unbuilt::Units) => Err(Refusal::Units),
     }
 }
 

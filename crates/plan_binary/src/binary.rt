@@ -66,7 +66,7 @@ fn with_itself(node: BinaryNode) -> Option<Plan>
         left,
         right,
     } = node;
-    if left.0 != right.0 {
+    if left != right {
         return None;
     }
     if is_kept_twice(op) {

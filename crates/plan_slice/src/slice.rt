@@ -197,7 +197,7 @@ fn adjacent(high: Operation, low: Operation, low_width: u16, width: u16) -> Opti
     let upper = cut_of(high)?;
     let lower = cut_of(low)?;
     let offset = u64::from(lower.offset);
-    if upper.value.0 == lower.value.0 && u64::from(upper.offset) == offset + u64::from(low_width) {
+    if upper.value == lower.value && u64::from(upper.offset) == offset + u64::from(low_width) {
         return Some(Plan::Slice(upper.value, offset, width));
     }
     None

@@ -1,12 +1,13 @@
 -- The builders and what they call meet their contracts: one cycle of calls. The measure is eight times the units left, and more where a function calls on before it spends one.
-use Rattle.std.proofs.Common.{arith, refl, sym, ap, ◌∙◌, length}
+use Rattle.std.proofs.Common.{arith, rules, ◌≡◌, refl, sym, ap, ◌∙◌, length, Err}
+use Rattle.graph.specs.declared.Unbuilt.TheVariants as unbuilt
 use Rattle.build.specs.Build.{exec, build}
 use Rattle.build.specs.Step.{rest_prog}
 use Rattle.build.specs.declared.Budget.{Budget}
 use Rattle.build.specs.declared.step.Start.TheVariants as start
 use Rattle.build.proofs.Laws.{entered_is, entered_none, entered_step, try_none, try_stop, units_fall, none_falls, masked_falls, on_out-tail, on_id-stop, constant-inserted}
 use Rattle.build.proofs.+builders.Goals as goal
-use Rattle.build.proofs.+builders.Goals.{try_modular-then-has_modular_plan+in-None, try_modular-else-has_modular_plan}
+use Rattle.build.proofs.+builders.Goals.{try_modular-then-has_modular_plan+in-Err-None, try_modular-else-has_modular_plan}
 
 pub enter-returns-then-budget-eq0 : goal.enter-returns-then-budget-eq0
 enter-returns-then-budget-eq0 t c = rw (entered_none _ _ _ c.if-budget-eq0.true, c.spent.ensures.0, c.spent.ensures.1)
@@ -38,7 +39,9 @@ try_modular-returns-then-budget-eq0 t c = rw (try_none _ _ _ _ _ c.if-budget-eq0
 pub try_modular-go_on-requires : goal.try_modular-go_on-requires
 try_modular-go_on-requires t c =
     elim c.if-has_modular_plan.branch [
-      | try_modular-then-has_modular_plan+in-None w ↦ omega (arith, none_falls _ _ _ (rw w.in-None.is at w.modular-tried.ensures), ap length w.g-is, ap (λ (b : Budget). b.units) w.left-is)
+      | try_modular-then-has_modular_plan+in-Err-None w ↦
+          let e : w.modular-tried.result.built ≡ Err unbuilt.None = search rules in
+          omega (arith, none_falls _ _ _ (rw e at w.modular-tried.ensures), ap length w.g-is, ap (λ (b : Budget). b.units) w.left-is)
       | try_modular-else-has_modular_plan w ↦ omega (arith, ap length w.g-is, ap (λ (b : Budget). b.units) w.left-is)
     ]
 
@@ -47,20 +50,24 @@ try_modular-returns t c =
     let a = c.args in
     let r = a.rest in
     elim c.if-has_modular_plan.branch [
-      | try_modular-then-has_modular_plan+in-None w ↦ c.go_on.ensures ∙ (λ i. exec build (rest_prog r (w.g-is i)) (w.left-is i).units (w.g-is i)) ∙ rw (on_out-tail, ← w.modular-tried.ensures, w.in-None.is)
+      | try_modular-then-has_modular_plan+in-Err-None w ↦
+          let e : w.modular-tried.result.built ≡ Err unbuilt.None = search rules in
+          c.go_on.ensures ∙ (λ i. exec build (rest_prog r (w.g-is i)) (w.left-is i).units (w.g-is i)) ∙ rw (on_out-tail, ← w.modular-tried.ensures, e)
       | try_modular-else-has_modular_plan w ↦
           c.go_on.ensures ∙ (λ i. exec build (rest_prog r (w.g-is i)) (w.left-is i).units (w.g-is i))
           ∙ sym (try_stop a.value.0 a.width a.budget.units (rest_prog r) a.g.now c.if-budget-eq0.false (grind arith))
     ]
 
 pub try_masked-go_on-requires : goal.try_masked-go_on-requires
-try_masked-go_on-requires t c = omega (arith, masked_falls _ _ _ (rw c.in-None.is at c.masked_operation-tried.ensures))
+try_masked-go_on-requires t c =
+    let e : c.masked_operation-tried.result.built ≡ Err unbuilt.None = search rules in
+    omega (arith, masked_falls _ _ _ (rw e at c.masked_operation-tried.ensures))
 
-pub constant_binary-returns-in-Id : goal.constant_binary-returns-in-Id
-constant_binary-returns-in-Id t c = rw (constant-inserted, ← c.constant.ensures, c.in-Id.is, on_out-tail) c.binary.ensures
+pub constant_binary-returns-in-Ok : goal.constant_binary-returns-in-Ok
+constant_binary-returns-in-Ok t c = rw (constant-inserted, ← c.constant.ensures, c.in-Ok.is, on_out-tail) c.binary.ensures
 
 pub constant_binary-returns-in_default : goal.constant_binary-returns-in_default
-constant_binary-returns-in_default t c = rw (constant-inserted, ← c.constant.ensures, on_id-stop _ _ _ _ c.in_default.not-Id)
+constant_binary-returns-in_default t c = rw (constant-inserted, ← c.constant.ensures, on_id-stop _ _ _ _ c.in_default.not-Ok)
 
 pub slice_identity-identity-requires : goal.slice_identity-identity-requires
 slice_identity-identity-requires t c = omega (arith, units_fall _ _ _ c.slice-part.ensures)
