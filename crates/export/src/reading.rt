@@ -4,10 +4,10 @@ ghost use Rattle.std.specs.Prelude.{true, ◌≡◌, length, ◌<◌, ◌/◌, �
 ghost use Rattle.word.specs.Value.{val};
 ghost use Rattle.word.specs.Option.{from_bool};
 ghost use Rattle.evaluate.specs.Answer.{outcome_of};
-ghost use Rattle.graph.specs.Layout.{WORDS, REGION, LIMIT};
+ghost use Rattle.graph.specs.Layout.{WORDS, LIMIT};
 ghost use Rattle.graph.specs.Node.{pair};
 ghost use Rattle.graph.specs.WellFormed.{is_graph};
-ghost use Rattle.guard.specs.Guard.{one_guard_of, guard_of, match_of};
+ghost use Rattle.guard.specs.Guard.{one_guard_of, guard_of};
 ghost use Rattle.native.specs.Call.{answer_number, literal_in_graph, literal_call, resolve_in_graph, resolve_call};
 ghost use Rattle.native.specs.Guard.{reading_of};
 ghost use Rattle.export.specs.Export.{exported};

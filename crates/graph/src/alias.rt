@@ -1,6 +1,6 @@
 // Aliases: the one place that sets them, and taking back what a call set and added.
 ghost use Rattle.std.specs.Prelude.{◌≡◌, ◌≤◌, length};
-ghost use Rattle.graph.specs.Layout.{REGION, LIMIT, count_of};
+ghost use Rattle.graph.specs.Layout.{LIMIT, count_of};
 ghost use Rattle.graph.specs.Alias.{aliased, saved, restored_up_to, restored};
 ghost use Rattle.graph.specs.Clear.{EmptyPast};
 

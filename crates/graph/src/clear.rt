@@ -1,6 +1,6 @@
 // Taking nodes off the end of the region.
 ghost use Rattle.std.specs.Prelude.{◌≡◌, ◌≤◌};
-ghost use Rattle.graph.specs.Layout.{REGION, LIMIT};
+ghost use Rattle.graph.specs.Layout.{LIMIT};
 ghost use Rattle.graph.specs.Clear.{cleared, EmptyPast};
 
 use crate::layout::{LIMIT, Region, start_of};

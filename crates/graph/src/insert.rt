@@ -2,7 +2,7 @@
 ghost use Rattle.std.specs.Prelude.{◌≡◌, true, min, max, ◌+◌, ◌-◌, ◌*◌, ◌≤◌, length, take};
 ghost use Rattle.std.proofs.Math.Seq.{paste};
 ghost use Rattle.range.specs.Interval.{interval_of};
-ghost use Rattle.graph.specs.Layout.{REGION, WORDS, KEY, FIRST, LIMIT, count_of};
+ghost use Rattle.graph.specs.Layout.{WORDS, KEY, LIMIT, count_of};
 ghost use Rattle.graph.specs.Node.{op_of};
 ghost use Rattle.graph.specs.Insert.{same_words, same_key, are_apart, lowest, start, made, built_of, inserted, appended};
 

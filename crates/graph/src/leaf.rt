@@ -1,8 +1,7 @@
 // Nodes without operands: constants, inputs and effects.
-ghost use Rattle.std.specs.Prelude.{◌≡◌, length};
+ghost use Rattle.std.specs.Prelude.{◌≡◌};
 ghost use Rattle.word.specs.Value.{val};
 ghost use Rattle.range.specs.Interval.{interval_of};
-ghost use Rattle.graph.specs.Layout.{REGION};
 ghost use Rattle.graph.specs.Insert.{made, built_of, constant, constant_interval, input, effect};
 
 use crate::insert::insert;

@@ -1,9 +1,8 @@
 // Reading a node: total on every region of the right length. What its numbers stand for is told here alone; one that names nothing is read as something, since
 // a region of any content is.
-ghost use Rattle.std.specs.Prelude.{◌≡◌, ◌%◌, ◌^◌, length};
+ghost use Rattle.std.specs.Prelude.{◌≡◌, ◌%◌, ◌^◌};
 ghost use Rattle.word.specs.Value.{val, number_of};
 ghost use Rattle.range.specs.Interval.{interval_of};
-ghost use Rattle.graph.specs.Layout.{REGION};
 ghost use Rattle.graph.specs.Node.{type_of, range_of, operation_of, op_of, type_at, range_at, operation_at, node_of, node_at};
 ghost use Rattle.graph.specs.Insert.{literal, resolve};
 

@@ -1,7 +1,6 @@
 // Question 1: is the region a graph? It is asked of the numbers in it, which may be any: no types and operations stand for them yet.
-ghost use Rattle.std.specs.Prelude.{◌≡◌, true, false, drop, MatchOption};
+ghost use Rattle.std.specs.Prelude.{◌≡◌, true, false, MatchOption};
 ghost use Rattle.word.specs.Value.{val};
-ghost use Rattle.graph.specs.Layout.{REGION};
 ghost use Rattle.graph.specs.WellFormed.{is_type, is_range, are_fields, is_operation, is_alias, is_node, are_nodes, are_zeros, is_graph};
 
 use crate::layout::{

@@ -1,5 +1,5 @@
 // Where the words of the marks' region stand.
-ghost use Rattle.std.specs.Prelude.{◌≡◌, length};
+ghost use Rattle.std.specs.Prelude.{◌≡◌};
 ghost use Rattle.mark.specs.Layout.{MARKS, standing};
 
 use graph::layout::LIMIT;

@@ -1,9 +1,9 @@
 // Setting a mark and going back to one, on regions whose questions are answered yes. The bound of a mark's number is a clause of three private functions: a type for it
 // would be made at each call from the word or the number that was asked of, with the proof that the clause takes.
-ghost use Rattle.std.specs.Prelude.{true, ◌≡◌, ◌<◌, ◌≤◌, length};
-ghost use Rattle.graph.specs.Layout.{REGION, LIMIT, count_of};
+ghost use Rattle.std.specs.Prelude.{true, ◌≡◌, ◌<◌, ◌≤◌};
+ghost use Rattle.graph.specs.Layout.{LIMIT, count_of};
 ghost use Rattle.graph.specs.WellFormed.{is_graph};
-ghost use Rattle.mark.specs.Layout.{MARKS, MOST, count_at};
+ghost use Rattle.mark.specs.Layout.{MOST, count_at};
 ghost use Rattle.mark.specs.Mark.{marked, returned, standing_only};
 
 use crate::layout::{FIRST, Marks, SPAN};

@@ -1,8 +1,7 @@
 // The call of retain, which drops all marks. `retain_in_graph` is for a caller that knows the regions to be a graph with its marks: on
 // other regions nothing is promised. The fact is a clause, as in native/src/perform.rt.
-ghost use Rattle.std.specs.Prelude.{true, ◌≡◌, length};
+ghost use Rattle.std.specs.Prelude.{true, ◌≡◌};
 ghost use Rattle.native.specs.Retain.{outcome_of, retention};
-ghost use Rattle.mark.specs.Layout.{MARKS};
 ghost use Rattle.mark.specs.WellFormed.{is_marked};
 ghost use Rattle.mark.specs.Mark.{unmarked, retaining, retain_in_graph, retain_call};
 

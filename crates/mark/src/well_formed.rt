@@ -1,7 +1,7 @@
 // The marks' part of question 1: can each mark that stands be returned to?
 ghost use Rattle.std.specs.Prelude.{◌≡◌, ◌<◌, ◌≤◌, length};
 ghost use Rattle.graph.specs.Layout.{LIMIT};
-ghost use Rattle.mark.specs.Layout.{MARKS, MOST};
+ghost use Rattle.mark.specs.Layout.{MOST};
 ghost use Rattle.mark.specs.WellFormed.{are_aliases, is_mark, are_marks, is_marked};
 
 use crate::layout::{FIRST, MOST, Marks, SPAN, standing};

@@ -1,10 +1,9 @@
 // The builders as a call makes them. Most operations fold to nothing: their plan is one node, and it is added at once.
 // What else a builder hands on, from step to step, costs more time than deciding; so only the others are built.
-ghost use Rattle.std.specs.Prelude.{not, ◌&&◌, ◌≡◌, eqb, length};
+ghost use Rattle.std.specs.Prelude.{not, ◌&&◌, ◌≡◌, eqb};
 ghost use Rattle.word.specs.Option.{is_some};
 ghost use Rattle.range.specs.declared.ScalarType.TheVariants as type;
 ghost use Rattle.evaluate.specs.Operator.{unary_width};
-ghost use Rattle.graph.specs.Layout.{REGION};
 ghost use Rattle.graph.specs.Insert.{literal};
 ghost use Rattle.fold.specs.Operator.{equalities, shifts};
 ghost use Rattle.fold.specs.Shape.{same_type, is_any};

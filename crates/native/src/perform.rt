@@ -1,10 +1,10 @@
 // A request performed: the questions in their order, the work, and what a refusal takes back.
-ghost use Rattle.std.specs.Prelude.{true, ◌≡◌, length, ◌≤◌};
+ghost use Rattle.std.specs.Prelude.{true, ◌≡◌, ◌≤◌};
 ghost use Rattle.graph.specs.Insert.{built_of};
-ghost use Rattle.graph.specs.Layout.{REGION, LIMIT};
+ghost use Rattle.graph.specs.Layout.{LIMIT};
 ghost use Rattle.graph.specs.WellFormed.{is_graph};
 ghost use Rattle.assume.specs.Assume.{assumed_guard};
-ghost use Rattle.native.specs.Call.{answer_of, called, is_refused};
+ghost use Rattle.native.specs.Call.{answer_of, called};
 ghost use Rattle.request.specs.Request.{request_of};
 ghost use Rattle.native.specs.Perform.{UNITS, settled, guard_out, worked, performed, left, request_in_graph, request_call};
 

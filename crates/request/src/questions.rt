@@ -1,9 +1,8 @@
 // Questions 2 to 5, each asked of a request in one place.
-ghost use Rattle.std.specs.Prelude.{[], ◌∷◌, ◌≡◌, length};
+ghost use Rattle.std.specs.Prelude.{[], ◌∷◌, ◌≡◌};
 ghost use Rattle.word.specs.Value.{val};
 ghost use Rattle.range.specs.Interval.{interval_of};
 ghost use Rattle.evaluate.specs.Operator.{WIDEST};
-ghost use Rattle.graph.specs.Layout.{REGION};
 ghost use Rattle.request.specs.Request.{request_of, all_up_to, all_below, widths, ids, typed, is_bool_value, is_range_of, declarable};
 
 use crate::Request;

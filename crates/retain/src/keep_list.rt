@@ -1,6 +1,5 @@
 // Question 6: may these nodes be kept?
 ghost use Rattle.std.specs.Prelude.{◌≡◌, ◌<◌, length};
-ghost use Rattle.graph.specs.Layout.{REGION};
 ghost use Rattle.retain.specs.Retain.{is_kept, has_first, has_second, operands_at, are_kept, is_allowed, are_allowed, is_keep_list};
 
 use evaluate::code::BINARY;

@@ -4,7 +4,7 @@
 pub mod keep_list;
 
 ghost use Rattle.std.specs.Prelude.{true, cond, ◌≡◌, suc, ◌<◌, length, get_or, set};
-ghost use Rattle.graph.specs.Layout.{REGION, LIMIT, count_of};
+ghost use Rattle.graph.specs.Layout.{LIMIT, count_of};
 ghost use Rattle.graph.specs.WellFormed.{is_graph};
 ghost use Rattle.retain.specs.Retain.{DROPPED, is_kept, is_keep_list, kept_below, new_ids, through, moved_words, moved, retained};
 
