@@ -2,14 +2,14 @@
 #![tactic(auto)]
 
 ghost use Rattle.std.specs.Io.KnownBytes.{Consumes};
-ghost use Rattle.std.specs.Prelude.{[], ◌∷◌, ◌≡◌, ◌+◌, ◌<◌, ◌≤◌, IfSome, eqb, leb, ltb, length, take};
+ghost use Rattle.std.specs.Prelude.{[], ◌∷◌, ◌≡◌, ◌+◌, ◌<◌, ◌≤◌, IfSome, IsFalse, IsTrue, OnOk, eqb, leb, ltb, length, take};
 ghost use Rattle.word.specs.Value.{val, number_of};
 ghost use Rattle.word.specs.Option.{only, provided};
 ghost use Rattle.text.specs.Text.{placed, end_of, placed_in};
-ghost use Rattle.vector_lines.specs.Replay.{AnswersWithin};
+ghost use Rattle.vector_lines.specs.Replay.{ReplaysAll, ReplaysFront, Replays};
 ghost use Rattle.vector_lines.specs.Text.{digit_value, spelled, hex_digits};
 
-use std::io::{Read, Write};
+use std::io::{Read, Result, Write};
 use text::{has_room, put_text_in_room};
 use word::Word;
 
@@ -127,44 +127,35 @@ fn answer_lines<F: FnMut(&[u8], &mut [u8]) -> Option<usize>>(
     answer: &mut F,
 ) -> Answered
     requires some_byte { 0 < size }
-    requires answers { AnswersWithin F.FnMut }
-    ensures { result.len ≤ length out.new }
+    requires callable { F.IsAlwaysCallable answer.old }
+    ensures in_bounds { result.len ≤ length out.new }
+    ensures callable { IsTrue result.is_whole → F.IsAlwaysCallable answer.new }
+    ensures all { IsTrue result.is_whole → ReplaysAll F.FnMut size answer.old block.now (take result.len out.new) answer.new }
+    ensures front { IsFalse result.is_whole → ReplaysFront F.FnMut size answer.old block.now (take result.len out.new) }
 {
     let mut len = 0;
-    for line in block.chunks_exact(size) {
-        let Some(n) = answer(line, &mut out[len..]) else {
-            return Answered {
-                len,
-                is_whole: false,
-            };
-        };
-        len += n;
+    let mut rest = block;
+    while let Some((line, after)) = rest.split_at_checked(size) {
+        match answer(line, &mut out[len..]) {
+            Some(n) if n <= out.len() - len => len += n,
+            _ => {
+                return Answered {
+                    len,
+                    is_whole: false,
+                };
+            }
+        }
+        rest = after;
     }
     Answered {
         len,
-        is_whole: block.len() % size == 0,
+        is_whole: rest.is_empty(),
     }
 }
 
-// Reads a block of lines and writes their answers, and answers whether there may be more lines.
-fn replay_block<R: Read, W: Write, F: FnMut(&[u8], &mut [u8]) -> Option<usize>>(
-    reader: &mut R,
-    writer: &mut W,
-    size: usize,
-    block: &mut [u8],
-    out: &mut [u8],
-    answer: &mut F,
-) -> bool
-    requires some_byte { 0 < size }
-    requires answers { AnswersWithin F.FnMut }
-{
-    let n = read_full(reader, block);
-    let answered = answer_lines(&block[..n], size, out, answer);
-    writer.write_all(&out[..answered.len]).is_ok() && answered.is_whole && n == block.len()
-}
-
 // Replays test vectors: reads lines of `size` bytes, as many at a time as block holds, and writes their answers, which out has room for. It stops
-// at a line that has no answer, and at the reader's end. `answer` puts a line's answer at the start of a slice, and answers where it ends.
+// at a line that has no answer, where the reader ends or a read fails, and where a write fails. `answer` puts a line's answer at the start of a
+// slice, and answers where it ends. A line's size is no const parameter, which a bound `FnMut` cannot name: so `0 < size` is a clause.
 pub fn replay<R: Read, W: Write, F: FnMut(&[u8], &mut [u8]) -> Option<usize>>(
     reader: &mut R,
     writer: &mut W,
@@ -172,14 +163,19 @@ pub fn replay<R: Read, W: Write, F: FnMut(&[u8], &mut [u8]) -> Option<usize>>(
     block: &mut [u8],
     out: &mut [u8],
     mut answer: F,
-)
+) -> Result<()>
     requires some_byte { 0 < size }
-    requires answers { AnswersWithin F.FnMut }
+    requires callable { F.IsAlwaysCallable answer }
+    ensures { OnOk result (Replays F.FnMut size answer (R.remaining reader.old) (R.remaining reader.new) (W.contents writer.old) (W.contents writer.new)) }
 {
     // A proved loop has to end: no run takes so many turns.
     for _ in 0..u64::MAX {
-        if !replay_block(reader, writer, size, block, out, &mut answer) {
-            return;
+        let n = read_full(reader, block);
+        let answered = answer_lines(&block[..n], size, out, &mut answer);
+        writer.write_all(&out[..answered.len])?;
+        if !answered.is_whole || n < block.len() {
+            return Ok(());
         }
     }
+    Ok(())
 }
