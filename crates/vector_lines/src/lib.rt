@@ -2,15 +2,15 @@
 #![tactic(auto)]
 
 ghost use Rattle.std.specs.Io.KnownBytes.{Consumes};
-ghost use Rattle.std.specs.Prelude.{[], ◌∷◌, ◌≡◌, ◌+◌, ◌<◌, ◌≤◌, IfSome, IsFalse, IsTrue, OnOk, eqb, leb, ltb, length, take};
+ghost use Rattle.std.specs.Prelude.{[], ◌∷◌, ◌++◌, ◌≡◌, ◌<◌, ◌≤◌, IfSome, IsFalse, IsTrue, OnOk, eqb, leb, ltb, length, take};
 ghost use Rattle.word.specs.Value.{val, number_of};
 ghost use Rattle.word.specs.Option.{only, provided};
-ghost use Rattle.text.specs.Text.{placed, end_of, placed_in};
+ghost use Rattle.text.specs.Text.{placed, fitting, placed_if};
 ghost use Rattle.vector_lines.specs.Replay.{ReplaysAll, ReplaysFront, Replays};
 ghost use Rattle.vector_lines.specs.Text.{digit_value, spelled, hex_digits};
 
 use std::io::{Read, Result, Write};
-use text::{has_room, put_text_in_room};
+use text::put_text_in_room;
 use word::Word;
 
 // A hex digit's value. `char::to_digit` would also read the capitals A to F.
@@ -52,36 +52,36 @@ pub fn word_of(text: &[u8]) -> Option<Word>
     Some(Word { lo, hi })
 }
 
-// Puts the 16 hex digits of a half into out from `at` on, and answers where they end.
-fn put_half(half: u64, out: &mut [u8], at: usize) -> usize
-    requires { at + 16 ≤ length out.old }
-    ensures value { result ≡ at + 16 }
-    ensures out_after { out.new ≡ placed out.old at (hex_digits 16 half) }
+// Puts the 16 hex digits of a half at the start of out, and answers how many there are.
+fn put_half(half: u64, out: &mut [u8]) -> usize
+    requires { 16 ≤ length out.old }
+    ensures value { result ≡ 16 }
+    ensures out_after { out.new ≡ placed out.old (hex_digits 16 half) }
 {
     let mut text = [0u8; 16];
     io::hex(half, 16, &mut text);
-    put_text_in_room(&text, out, at)
+    put_text_in_room(&text, out)
 }
 
-// Puts the 32 hex digits of a word into out from `at` on, and answers where they end.
-pub fn put_word_in_room(w: Word, out: &mut [u8], at: usize) -> usize
-    requires { at + 32 ≤ length out.old }
-    ensures value { result ≡ at + 32 }
-    ensures out_after { out.new ≡ placed out.old at (hex_digits 32 (val w)) }
+// Puts the 32 hex digits of a word at the start of out, and answers how many there are.
+pub fn put_word_in_room(w: Word, out: &mut [u8]) -> usize
+    requires { 32 ≤ length out.old }
+    ensures value { result ≡ 32 }
+    ensures out_after { out.new ≡ placed out.old (hex_digits 32 (val w)) }
 {
-    let middle = put_half(w.hi, out, at);
-    put_half(w.lo, out, middle)
+    let middle = put_half(w.hi, out);
+    middle + put_half(w.lo, &mut out[middle..])
 }
 
 // The same where there is room for it, and else nothing.
-pub fn put_word(w: Word, out: &mut [u8], at: usize) -> usize
-    ensures value { result ≡ end_of out.old at 32 }
-    ensures out_after { out.new ≡ placed_in out.old at 32 (hex_digits 32 (val w)) }
+pub fn put_word(w: Word, out: &mut [u8]) -> usize
+    ensures value { result ≡ fitting 32 out.old }
+    ensures out_after { out.new ≡ placed_if 32 out.old (hex_digits 32 (val w)) }
 {
-    if has_room(out, at, 32) {
-        put_word_in_room(w, out, at)
+    if 32 <= out.len() {
+        put_word_in_room(w, out)
     } else {
-        at
+        0
     }
 }
 
@@ -102,14 +102,14 @@ pub fn read_full<R: Read>(reader: &mut R, block: &mut [u8]) -> usize
     at
 }
 
-// Puts the digits of a word and a line end into out from `at` on, and answers where they end.
-pub fn put_word_line(w: Word, out: &mut [u8], at: usize) -> usize
-    requires { at + 33 ≤ length out.old }
-    ensures value { result ≡ at + 33 }
-    ensures out_after { out.new ≡ placed (placed out.old at (hex_digits 32 (val w))) (at + 32) (10 ∷ []) }
+// Puts the digits of a word and a line end at the start of out, and answers how many bytes they have.
+pub fn put_word_line(w: Word, out: &mut [u8]) -> usize
+    requires { 33 ≤ length out.old }
+    ensures value { result ≡ 33 }
+    ensures out_after { out.new ≡ placed out.old (hex_digits 32 (val w) ++ (10 ∷ [])) }
 {
-    let end = put_word_in_room(w, out, at);
-    put_text_in_room(b"\n", out, end)
+    let end = put_word_in_room(w, out);
+    end + put_text_in_room(b"\n", &mut out[end..])
 }
 
 // How far the lines of a block were answered: how many bytes the answers have, and whether that is all of the block.

@@ -1,21 +1,17 @@
--- `record::perform::perform_in_graph` meets its contract: room for a line, then the tag and its body. Assumes nothing.
+-- `record::perform::perform_in_graph` meets its contract: room for a line, and then the record. Assumes nothing.
 use borrow.Author.Tests.{le-leb, lt-leb}
-use Rattle.record.specs.Record.{asked}
-use Rattle.record.specs.Perform.{done_by, effect_in_graph, record_in_graph}
-use Rattle.record.proofs.Parts.{part_from}
-use Rattle.record.proofs.Steps.{bad_step}
+use Rattle.record.specs.Line.{LINE}
+use Rattle.record.specs.Perform.{record_in_graph}
+use Rattle.record.proofs.Within.{written-front}
 use Rattle.record.proofs.perform.perform_in_graph.Goals as goal
 
-pub returns-then-line-lt-LINE : goal.returns-then-line-lt-LINE
+pub returns-in_err-line : goal.returns-in_err-line
 unfolding record_in_graph
-returns-then-line-lt-LINE c = rw (lt-leb _ _ c.if-line-lt-LINE.true)
-
-pub returns-in_default : goal.returns-in_default
-unfolding record_in_graph effect_in_graph asked done_by
-returns-in_default c =
-    rw (le-leb _ _ c.if-line-lt-LINE.false, ← c.tag_in.ensures, c.in_default.is)
-    (bad_step c.args.line.now c.args.g.now c.args.mapping.now (c.put_bad.ensures.value, c.put_bad.ensures.line_after))
+returns-in_err-line c = rw (c.from_residual.ensures, lt-leb _ _ c.in_err-line.ensures.cases)
 
 pub returns : goal.returns
-unfolding record_in_graph effect_in_graph asked
-returns c = rw (le-leb _ _ c.if-line-lt-LINE.false, ← c.tag_in.ensures, c.in-Some.is) (rw part_from at c.perform_body.ensures)
+unfolding record_in_graph
+returns c =
+    let cut = c.in_ok-line.ensures.cases in
+    rw (le-leb _ _ cut.enough)
+    (written-front LINE c.args.line.now c.in_ok-line.line.now c.step_in_graph.new.line _ _ _ _ cut.same c.step_in_graph.ensures)
