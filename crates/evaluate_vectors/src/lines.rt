@@ -38,19 +38,19 @@ fn vector_of(line: &[u8; LINE]) -> Option<Vector> {
 fn put_range(range: Range, out: &mut [u8; ROOM]) -> usize
     ensures { result ≡ ROOM }
 {
-    let middle = put_word_in_room(range.min.as_word(), out, 0);
-    let next = put_text_in_room(b" ", out, middle);
-    put_word_line(range.max.as_word(), out, next)
+    let middle = put_word_in_room(range.min.as_word(), out);
+    out[middle] = b' ';
+    let next = middle + 1;
+    next + put_word_line(range.max.as_word(), &mut out[next..])
 }
 
 // The number of a question is one digit.
 fn put_refusal(refusal: Refusal, out: &mut [u8; ROOM]) -> usize
     ensures { result ≡ 10 }
 {
-    let digit = [b'0' + (refusal.number() % 10) as u8];
-    let next = put_text_in_room(b"refused ", out, 0);
-    let end = put_text_in_room(&digit, out, next);
-    put_text_in_room(b"\n", out, end)
+    let end = put_text_in_room(b"refused ", out);
+    let digit = b'0' + (refusal.number() % 10) as u8;
+    end + put_text_in_room(&[digit, b'\n'], &mut out[end..])
 }
 
 // Puts the answer's line at the start of out, and answers where it ends.
@@ -58,10 +58,10 @@ fn put_answer(answer: Answer, out: &mut [u8; ROOM]) -> usize
     ensures { result ≤ ROOM }
 {
     match answer {
-        Answer::Pattern(Some(w)) => put_word_line(w, out, 0),
+        Answer::Pattern(Some(w)) => put_word_line(w, out),
         Answer::Interval(Some(range)) => put_range(range, out),
         Answer::Refused(refusal) => put_refusal(refusal, out),
-        Answer::Pattern(None) | Answer::Interval(None) => put_text_in_room(b"none\n", out, 0),
+        Answer::Pattern(None) | Answer::Interval(None) => put_text_in_room(b"none\n", out),
     }
 }
 

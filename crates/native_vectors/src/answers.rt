@@ -1,5 +1,5 @@
 // The text of an answer. After a call's own answer stand the sums of all words.
-ghost use Rattle.std.specs.Prelude.{◌≡◌, ◌+◌, ◌≤◌, IfSome, length};
+ghost use Rattle.std.specs.Prelude.{◌≡◌, ◌≤◌, IfSome, length};
 
 use crate::calls::{Outcome, Reply, perform};
 use crate::guards::packed;
@@ -19,16 +19,16 @@ fn put_numbered(name: &[u8], number: u64, out: &mut [u8; ROOM]) -> usize
     requires { length name.now ≤ 8 }
     ensures { result ≤ 28 }
 {
-    let at = put_text_in_room(name, out, 0);
-    put_decimal(number, out, at)
+    let end = put_text_in_room(name, out);
+    end + put_decimal(number, &mut out[end..])
 }
 
 // Puts a name of six bytes and a word at the start of out, and answers where they end.
 fn put_named(name: &[u8; 6], word: Word, out: &mut [u8; ROOM]) -> usize
     ensures { result ≡ 38 }
 {
-    let at = put_text_in_room(name, out, 0);
-    put_word_in_room(word, out, at)
+    let end = put_text_in_room(name, out);
+    end + put_word_in_room(word, &mut out[end..])
 }
 
 // Puts what a call answered at the start of out, and answers where it ends.
@@ -41,22 +41,22 @@ fn put_reply(reply: Result<Reply, Refusal>, out: &mut [u8; ROOM]) -> usize
         Ok(Reply::Value(Some(value))) => put_named(b"value ", value, out),
         Ok(Reply::Guard(Some(guard))) => put_named(b"guard ", packed(guard), out),
         Ok(Reply::Answer(Answer::None) | Reply::Value(None) | Reply::Guard(None)) => {
-            put_text_in_room(b"none", out, 0)
+            put_text_in_room(b"none", out)
         }
-        Ok(Reply::Answer(Answer::Done)) => put_text_in_room(b"done", out, 0),
-        Ok(Reply::Truth(true)) => put_text_in_room(b"yes", out, 0),
-        Ok(Reply::Truth(false)) => put_text_in_room(b"no", out, 0),
+        Ok(Reply::Answer(Answer::Done)) => put_text_in_room(b"done", out),
+        Ok(Reply::Truth(true)) => put_text_in_room(b"yes", out),
+        Ok(Reply::Truth(false)) => put_text_in_room(b"no", out),
         Err(refusal) => put_numbered(b"refused ", refusal.number(), out),
     }
 }
 
-// Puts a space, a word and a line end at `at`, and answers where it ends.
-fn put_last(word: Word, out: &mut [u8; ROOM], at: usize) -> usize
-    requires { at ≤ 38 }
-    ensures { result ≡ at + 34 }
+// Puts a space, a word and a line end at the start of out, and answers how many bytes they have.
+fn put_last(word: Word, out: &mut [u8]) -> usize
+    requires { 34 ≤ length out.old }
+    ensures { result ≡ 34 }
 {
-    let start = put_text_in_room(b" ", out, at);
-    put_word_line(word, out, start)
+    out[0] = b' ';
+    1 + put_word_line(word, &mut out[1..])
 }
 
 // Puts the answer's line at the start of out, and answers where it ends.
@@ -66,13 +66,13 @@ fn put_outcome(outcome: Outcome, words: &Words, out: &mut [u8; ROOM]) -> usize
     match outcome {
         Outcome::Answered(reply) => {
             let end = put_reply(reply, out);
-            put_last(sums_of(words), out, end)
+            end + put_last(sums_of(words), &mut out[end..])
         }
         Outcome::Words(a, b) => {
             let end = put_named(b"words ", a, out);
-            put_last(b, out, end)
+            end + put_last(b, &mut out[end..])
         }
-        Outcome::Done => put_text_in_room(b"done\n", out, 0),
+        Outcome::Done => put_text_in_room(b"done\n", out),
     }
 }
 

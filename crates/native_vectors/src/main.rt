@@ -1,5 +1,5 @@
 // Replays calls on one region: standard input has a line for each, and standard output gets the answers.
-// It stops at a malformed line, and at the end of the input.
+// It stops at a malformed line, at the end of the input, and where it cannot write.
 #![tactic(auto)]
 
 mod answers;
@@ -18,7 +18,7 @@ fn main(rt: HostRuntime) {
     let mut words = [0u64; WORDS];
     let mut lines = [0u8; 64 * LINE];
     let mut answers = [0u8; 64 * ROOM];
-    replay(
+    let _ = replay(
         &mut rt.stdin(),
         &mut rt.stdout(),
         LINE,

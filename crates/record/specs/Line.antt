@@ -1,6 +1,6 @@
 -- The lines of the program, each ended by a newline.
-use Rattle.std.specs.Prelude.{List, [], ◌∷◌, ◌++◌, ℕ}
-use Rattle.text.specs.Text.{decimal}
+use Rattle.std.specs.Prelude.{◌≡◌, ◌≤◌, List, [], ◌∷◌, ◌++◌, ℕ, length}
+use Rattle.text.specs.Text.{placed, decimal}
 use Rattle.answer.specs.Refusal.{refusal_number}
 use Rattle.native.specs.Call as calls
 use Rattle.native.specs.Call.{Response}
@@ -62,3 +62,9 @@ nodes_line n = numbered NODES n
 -- room for any line: a word of at most 11 bytes, a number of 64 bits and a newline
 abbrev pub LINE : ℕ
 LINE = 32
+
+-- a text of n bytes stands at the start of a slice that has room for it
+pub record Puts (text before after : List ℕ) (n : ℕ) : Type 0 where
+  pub len : n ≡ length text
+  pub slice : after ≡ placed before text
+  pub fits : length text ≤ length before

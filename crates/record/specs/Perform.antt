@@ -1,5 +1,5 @@
 -- One record: the call that it asks for, its line, and whether reading goes on.
-use Rattle.std.specs.Prelude.{Bool, true, false, cond, List, ◌++◌, ℕ, min, leb, length, take, drop}
+use Rattle.std.specs.Prelude.{◌≡◌, ◌≤◌, Bool, true, false, cond, List, ◌++◌, ℕ, min, leb, length, take, drop}
 use Rattle.std.specs.Prelude.{Option, None, Some}
 use Rattle.text.specs.Text.{placed}
 use Rattle.graph.specs.Layout.{count_of}
@@ -90,7 +90,12 @@ line_of is_last n = cond is_last (ends n) (goes_on n)
 
 -- an effect with its line at the start of a slice
 abbrev pub written : List ℕ → Effect → Left
-written out e = left (line_of e.is_last (length e.text)) e.graph e.mapping (placed out 0 e.text)
+written out e = left (line_of e.is_last (length e.text)) e.graph e.mapping (placed out e.text)
+
+-- an effect's line fits a slice, and this is what is left
+pub record Writes (out : List ℕ) (e : Effect) (after : Left) : Type 0 where
+  pub fits : length e.text ≤ length out
+  pub same : after ≡ written out e
 
 -- a line needs room; without it nothing is done
 unfoldable pub record_in_graph : List ℕ → List ℕ → List ℕ → List ℕ → Left

@@ -1,16 +1,15 @@
 // One record: the call that it asks for, and its line. `.._in_graph` is for a caller that knows the region to be a graph, as `call_in_graph`
 // (native/src/perform.rt) says.
-ghost use Rattle.std.specs.Prelude.{List, ℕ, Some, true, false, ◌≡◌, min, ◌≤◌, length, take};
+ghost use Rattle.std.specs.Prelude.{List, ℕ, Some, true, false, ◌≡◌, min, take};
 ghost use Rattle.word.specs.Option.{is_some};
 ghost use Rattle.graph.specs.WellFormed.{is_graph};
 ghost use Rattle.native.specs.Perform.{request_in_graph};
 ghost use Rattle.native.specs.Retain.{outcome_of, retention, retain_in_graph};
 ghost use Rattle.record.specs.Record.{tag_in, asked, asked_in, first_length};
-ghost use Rattle.record.specs.Line.{LINE};
-ghost use Rattle.record.specs.Perform.{left, progress_of, lent_words, widened, done_by, written, record_in_graph, record_call};
+ghost use Rattle.record.specs.Perform.{left, progress_of, lent_words, widened, done_by, effect_in_graph, effect_call, record_in_graph, record_call, Writes};
 
 use crate::decode::request_in;
-use crate::line::{LINE, put_answer, put_bad, put_refusal, put_retained};
+use crate::line::{Line, put_answer, put_bad, put_refusal, put_retained};
 use answer::Refusal;
 use graph::layout::{Region, count};
 use graph::well_formed::is_graph;
@@ -75,10 +74,9 @@ fn retain_listed(g: &mut Region, mapping: &mut [u64], keep: &[u8]) -> Result<u64
 }
 
 // What a tag and a body ask for.
-#[tactic(auto, using(crate::proofs::Steps::answered_step, crate::proofs::Steps::kept_step, crate::proofs::Steps::bad_step), unfolding(crate::specs::Perform::done_by))]
-fn perform_body(g: &mut Region, mapping: &mut [u64], tag: u8, body: &[u8], line: &mut [u8]) -> Step
-    requires { (is_graph g.old ≡ true) × (LINE ≤ length line.old) }
-    ensures { left (progress_of (Some result)) g.new mapping.new line.new ≡ written line.old (done_by (request_in_graph g.old) (retain_in_graph g.old) g.old mapping.old (asked_in tag body.now)) }
+fn perform_body(g: &mut Region, mapping: &mut [u64], tag: u8, body: &[u8], line: &mut Line) -> Step
+    requires { is_graph g.old ≡ true }
+    ensures { Writes line.old (done_by (request_in_graph g.old) (retain_in_graph g.old) g.old mapping.old (asked_in tag body.now)) (left (progress_of (Some result)) g.new mapping.new line.new) }
 {
     if tag == RETAIN {
         let retained = retain_listed(g, mapping, body);
@@ -91,7 +89,17 @@ fn perform_body(g: &mut Region, mapping: &mut [u64], tag: u8, body: &[u8], line:
     Step::Line(put_answer(answer, line))
 }
 
-#[tactic(auto, using(crate::proofs::Parts::part_from, crate::proofs::Steps::bad_step), unfolding(crate::specs::Perform::record_in_graph, crate::specs::Perform::effect_in_graph, crate::specs::Record::asked, crate::specs::Perform::done_by))]
+// The record on a graph.
+fn step_in_graph(g: &mut Region, mapping: &mut [u64], bytes: &[u8], line: &mut Line) -> Step
+    requires { is_graph g.old ≡ true }
+    ensures { Writes line.old (effect_in_graph g.old mapping.old bytes.now) (left (progress_of (Some result)) g.new mapping.new line.new) }
+{
+    match tag_in(bytes) {
+        Some(tag) => perform_body(g, mapping, tag, &bytes[HEADER..], line),
+        None => Step::Last(put_bad(line)),
+    }
+}
+
 pub fn perform_in_graph(
     g: &mut Region,
     mapping: &mut [u64],
@@ -101,13 +109,8 @@ pub fn perform_in_graph(
     requires { is_graph g.old ≡ true }
     ensures { left (progress_of result) g.new mapping.new line.new ≡ record_in_graph g.old mapping.old bytes.now line.old }
 {
-    if line.len() < LINE {
-        return None;
-    }
-    let Some(tag) = tag_in(bytes) else {
-        return Some(Step::Last(put_bad(line)));
-    };
-    Some(perform_body(g, mapping, tag, &bytes[HEADER..], line))
+    let line = line.first_chunk_mut()?;
+    Some(step_in_graph(g, mapping, bytes, line))
 }
 
 // Is this no bad record?
@@ -122,30 +125,33 @@ fn is_record(bytes: &[u8]) -> bool
 }
 
 // On a region that is no graph whatever is asked for is refused; a bad record comes before that.
-#[tactic(auto, unfolding(crate::specs::Perform::record_call))]
-fn refuse(bytes: &[u8], line: &mut [u8]) -> Option<Step>
-    ensures { (g m : List ℕ) → is_graph g ≡ false → left (progress_of result) g m line.new ≡ record_call g m bytes.now line.old }
+fn refuse(bytes: &[u8], line: &mut Line) -> Step
+    ensures { (g m : List ℕ) → is_graph g ≡ false → Writes line.old (effect_call g m bytes.now) (left (progress_of (Some result)) g m line.new) }
 {
-    if line.len() < LINE {
-        return None;
-    }
     if is_record(bytes) {
-        Some(Step::Line(put_refusal(Refusal::Graph, line)))
+        Step::Line(put_refusal(Refusal::Graph, line))
     } else {
-        Some(Step::Last(put_bad(line)))
+        Step::Last(put_bad(line))
     }
 }
 
-#[tactic(auto, using(crate::proofs::Steps::record_in_graph_lem), unfolding(graph::specs::WellFormed::is_graph))]
-pub fn perform(g: &mut [u64], mapping: &mut [u64], bytes: &[u8], line: &mut [u8]) -> Option<Step>
-    ensures { left (progress_of result) g.new mapping.new line.new ≡ record_call g.old mapping.old bytes.now line.old }
+// The record on any region.
+fn step_call(g: &mut [u64], mapping: &mut [u64], bytes: &[u8], line: &mut Line) -> Step
+    ensures { Writes line.old (effect_call g.old mapping.old bytes.now) (left (progress_of (Some result)) g.new mapping.new line.new) }
 {
     let Some(region) = g.as_mut_array() else {
         return refuse(bytes, line);
     };
     if is_graph(region) {
-        perform_in_graph(region, mapping, bytes, line)
+        step_in_graph(region, mapping, bytes, line)
     } else {
         refuse(bytes, line)
     }
+}
+
+pub fn perform(g: &mut [u64], mapping: &mut [u64], bytes: &[u8], line: &mut [u8]) -> Option<Step>
+    ensures { left (progress_of result) g.new mapping.new line.new ≡ record_call g.old mapping.old bytes.now line.old }
+{
+    let line = line.first_chunk_mut()?;
+    Some(step_call(g, mapping, bytes, line))
 }

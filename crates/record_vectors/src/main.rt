@@ -80,7 +80,7 @@ fn put_stream(stream: &[u8], out: &mut [u8]) -> usize
     let mut mapping = [0u64; NODES];
     let at = put_lines(&mut g, &mut mapping, stream, out);
     let end = at + put_count(&g, &mut out[at..]);
-    put_text(b"\n", out, end)
+    end + put_text(b"\n", &mut out[end..])
 }
 
 // Replays a stream, if there is one that is well formed.

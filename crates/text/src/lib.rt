@@ -1,37 +1,30 @@
-// Text in a lent slice: bytes as they are, and numbers in decimal digits.
+// Text at the start of a lent slice: bytes as they are, and numbers in decimal digits. What comes behind is put into the rest of the slice.
 #![tactic(auto)]
 
-ghost use Rattle.std.specs.Prelude.{◌≡◌, ◌+◌, ◌≤◌, length};
-ghost use Rattle.text.specs.Text.{placed, has_room, end_of, placed_in, decimal};
+ghost use Rattle.std.specs.Prelude.{◌≡◌, ◌≤◌, length};
+ghost use Rattle.text.specs.Text.{placed, fitting, placed_if, decimal};
 
-// Is there room for n bytes of out from `at` on?
-pub fn has_room(out: &[u8], at: usize, n: usize) -> bool
-    ensures { result ≡ has_room out.now at n }
-{
-    at <= out.len() && n <= out.len() - at
-}
-
-// Puts text into out from `at` on, and answers where it ends.
+// Puts text at the start of out, and answers how many bytes it has.
 #[tactic(auto, unfolding(crate::specs::Text::placed))]
-pub fn put_text_in_room(text: &[u8], out: &mut [u8], at: usize) -> usize
-    requires { at + length text.now ≤ length out.old }
-    ensures value { result ≡ at + length text.now }
-    ensures out_after { out.new ≡ placed out.old at text.now }
+pub fn put_text_in_room(text: &[u8], out: &mut [u8]) -> usize
+    requires { length text.now ≤ length out.old }
+    ensures value { result ≡ length text.now }
+    ensures out_after { out.new ≡ placed out.old text.now }
 {
-    let end = at + text.len();
-    out[at..end].copy_from_slice(text);
-    end
+    let len = text.len();
+    out[..len].copy_from_slice(text);
+    len
 }
 
 // The same where there is room for it, and else nothing.
-pub fn put_text(text: &[u8], out: &mut [u8], at: usize) -> usize
-    ensures value { result ≡ end_of out.old at (length text.now) }
-    ensures out_after { out.new ≡ placed_in out.old at (length text.now) text.now }
+pub fn put_text(text: &[u8], out: &mut [u8]) -> usize
+    ensures value { result ≡ fitting (length text.now) out.old }
+    ensures out_after { out.new ≡ placed_if (length text.now) out.old text.now }
 {
-    if has_room(out, at, text.len()) {
-        put_text_in_room(text, out, at)
+    if text.len() <= out.len() {
+        put_text_in_room(text, out)
     } else {
-        at
+        0
     }
 }
 
@@ -47,30 +40,30 @@ fn decimal_places(n: u64) -> usize
     }
 }
 
-// Puts the decimal digits of n into out from `at` on, and answers where they end.
+// Puts the decimal digits of n at the start of out, and answers how many there are.
 #[tactic(auto, using(crate::proofs::Decimal::length_small, crate::proofs::Decimal::length_large))]
-pub fn put_decimal_in_room(n: u64, out: &mut [u8], at: usize) -> usize
-    requires { at + length (decimal n) ≤ length out.old }
-    ensures value { result ≡ at + length (decimal n) }
-    ensures out_after { out.new ≡ placed out.old at (decimal n) }
+pub fn put_decimal_in_room(n: u64, out: &mut [u8]) -> usize
+    requires { length (decimal n) ≤ length out.old }
+    ensures value { result ≡ length (decimal n) }
+    ensures out_after { out.new ≡ placed out.old (decimal n) }
 {
     if n < 10 {
-        out[at] = b'0' + n as u8;
-        return at + 1;
+        out[0] = b'0' + n as u8;
+        return 1;
     }
-    let end = put_decimal_in_room(n / 10, out, at);
+    let end = put_decimal_in_room(n / 10, out);
     out[end] = b'0' + (n % 10) as u8;
     end + 1
 }
 
 // The same where there is room for them, and else nothing.
-pub fn put_decimal(n: u64, out: &mut [u8], at: usize) -> usize
-    ensures value { result ≡ end_of out.old at (length (decimal n)) }
-    ensures out_after { out.new ≡ placed_in out.old at (length (decimal n)) (decimal n) }
+pub fn put_decimal(n: u64, out: &mut [u8]) -> usize
+    ensures value { result ≡ fitting (length (decimal n)) out.old }
+    ensures out_after { out.new ≡ placed_if (length (decimal n)) out.old (decimal n) }
 {
-    if has_room(out, at, decimal_places(n)) {
-        put_decimal_in_room(n, out, at)
+    if decimal_places(n) <= out.len() {
+        put_decimal_in_room(n, out)
     } else {
-        at
+        0
     }
 }

@@ -1,2 +1,2 @@
 pub mod Spelling
-pub mod Placing
+pub mod Replaying

@@ -5,10 +5,11 @@ use Rattle.std.specs.Prelude.{Option, None, Some}
 use mathlib.Core.Path.{◌≡◌, refl, sym, ap, ◌∙◌}
 use Prim.Native.Nat.{ℕ, zero, suc, ◌+◌, ◌-◌, ◌*◌, ◌/◌, ◌%◌, ◌^◌, ◌≤◌, ◌<◌}
 use native.Mathlib.Nat.{pow-suc, pow-le-pow_right, lt_of_lt_of_le, le_of_eq, add-zero, add-suc, suc-add, zero-add, zero-lt-suc, mul_assoc}
+use native.Mathlib.Numerals.{add-one}
 use native.Mathlib.Omega.{arith}
 use lib.Arith.{digits_lt}
 use lib.Dec.{eqb, ltb, leb}
-use lib.ListN.{length, take, drop, take-append-drop, length-drop}
+use lib.ListN.{length, take, drop, take-append-drop, length-drop, length-append}
 use lib.Seq.{take_all, length-take-le}
 use Rattle.word.specs.Option.{provided}
 use Rattle.io.specs.Digits.{last_digits, hex_digit_ascii}
@@ -88,6 +89,12 @@ parts_read l e h o p q =
     rw (p, q, a, b, s, e) (sym (halves_read l e))
 
 -- ---- digits are written in two parts
+
+pub length-hex_digits : (k n : ℕ) → length (hex_digits k n) ≡ k
+unfolding hex_digits
+length-hex_digits zero n = refl
+length-hex_digits (suc k) n =
+    length-append (last_digits 16 k (n / 16)) (hex_digit_ascii (n % 16) ∷ []) ∙ rw (length-hex_digits k (n / 16)) (add-one k)
 
 pub halves_written : (j k h l : ℕ) → l < 16 ^ k → hex_digits (j + k) (h * 16 ^ k + l) ≡ hex_digits j h ++ hex_digits k l
 unfolding hex_digits

@@ -2,15 +2,15 @@
 #![tactic(auto)]
 
 ghost use Rattle.std.specs.Io.KnownBytes.{Consumes};
-ghost use Rattle.std.specs.Prelude.{[], ◌∷◌, ◌≡◌, ◌+◌, ◌<◌, ◌≤◌, IfSome, eqb, leb, ltb, length, take};
+ghost use Rattle.std.specs.Prelude.{[], ◌∷◌, ◌++◌, ◌≡◌, ◌<◌, ◌≤◌, IfSome, IsFalse, IsTrue, OnOk, eqb, leb, ltb, length, take};
 ghost use Rattle.word.specs.Value.{val, number_of};
 ghost use Rattle.word.specs.Option.{only, provided};
-ghost use Rattle.text.specs.Text.{placed, end_of, placed_in};
-ghost use Rattle.vector_lines.specs.Replay.{AnswersWithin};
+ghost use Rattle.text.specs.Text.{placed, fitting, placed_if};
+ghost use Rattle.vector_lines.specs.Replay.{ReplaysAll, ReplaysFront, Replays};
 ghost use Rattle.vector_lines.specs.Text.{digit_value, spelled, hex_digits};
 
-use std::io::{Read, Write};
-use text::{has_room, put_text_in_room};
+use std::io::{Read, Result, Write};
+use text::put_text_in_room;
 use word::Word;
 
 // A hex digit's value. `char::to_digit` would also read the capitals A to F.
@@ -52,36 +52,36 @@ pub fn word_of(text: &[u8]) -> Option<Word>
     Some(Word { lo, hi })
 }
 
-// Puts the 16 hex digits of a half into out from `at` on, and answers where they end.
-fn put_half(half: u64, out: &mut [u8], at: usize) -> usize
-    requires { at + 16 ≤ length out.old }
-    ensures value { result ≡ at + 16 }
-    ensures out_after { out.new ≡ placed out.old at (hex_digits 16 half) }
+// Puts the 16 hex digits of a half at the start of out, and answers how many there are.
+fn put_half(half: u64, out: &mut [u8]) -> usize
+    requires { 16 ≤ length out.old }
+    ensures value { result ≡ 16 }
+    ensures out_after { out.new ≡ placed out.old (hex_digits 16 half) }
 {
     let mut text = [0u8; 16];
     io::hex(half, 16, &mut text);
-    put_text_in_room(&text, out, at)
+    put_text_in_room(&text, out)
 }
 
-// Puts the 32 hex digits of a word into out from `at` on, and answers where they end.
-pub fn put_word_in_room(w: Word, out: &mut [u8], at: usize) -> usize
-    requires { at + 32 ≤ length out.old }
-    ensures value { result ≡ at + 32 }
-    ensures out_after { out.new ≡ placed out.old at (hex_digits 32 (val w)) }
+// Puts the 32 hex digits of a word at the start of out, and answers how many there are.
+pub fn put_word_in_room(w: Word, out: &mut [u8]) -> usize
+    requires { 32 ≤ length out.old }
+    ensures value { result ≡ 32 }
+    ensures out_after { out.new ≡ placed out.old (hex_digits 32 (val w)) }
 {
-    let middle = put_half(w.hi, out, at);
-    put_half(w.lo, out, middle)
+    let middle = put_half(w.hi, out);
+    middle + put_half(w.lo, &mut out[middle..])
 }
 
 // The same where there is room for it, and else nothing.
-pub fn put_word(w: Word, out: &mut [u8], at: usize) -> usize
-    ensures value { result ≡ end_of out.old at 32 }
-    ensures out_after { out.new ≡ placed_in out.old at 32 (hex_digits 32 (val w)) }
+pub fn put_word(w: Word, out: &mut [u8]) -> usize
+    ensures value { result ≡ fitting 32 out.old }
+    ensures out_after { out.new ≡ placed_if 32 out.old (hex_digits 32 (val w)) }
 {
-    if has_room(out, at, 32) {
-        put_word_in_room(w, out, at)
+    if 32 <= out.len() {
+        put_word_in_room(w, out)
     } else {
-        at
+        0
     }
 }
 
@@ -102,14 +102,14 @@ pub fn read_full<R: Read>(reader: &mut R, block: &mut [u8]) -> usize
     at
 }
 
-// Puts the digits of a word and a line end into out from `at` on, and answers where they end.
-pub fn put_word_line(w: Word, out: &mut [u8], at: usize) -> usize
-    requires { at + 33 ≤ length out.old }
-    ensures value { result ≡ at + 33 }
-    ensures out_after { out.new ≡ placed (placed out.old at (hex_digits 32 (val w))) (at + 32) (10 ∷ []) }
+// Puts the digits of a word and a line end at the start of out, and answers how many bytes they have.
+pub fn put_word_line(w: Word, out: &mut [u8]) -> usize
+    requires { 33 ≤ length out.old }
+    ensures value { result ≡ 33 }
+    ensures out_after { out.new ≡ placed out.old (hex_digits 32 (val w) ++ (10 ∷ [])) }
 {
-    let end = put_word_in_room(w, out, at);
-    put_text_in_room(b"\n", out, end)
+    let end = put_word_in_room(w, out);
+    end + put_text_in_room(b"\n", &mut out[end..])
 }
 
 // How far the lines of a block were answered: how many bytes the answers have, and whether that is all of the block.
@@ -127,44 +127,35 @@ fn answer_lines<F: FnMut(&[u8], &mut [u8]) -> Option<usize>>(
     answer: &mut F,
 ) -> Answered
     requires some_byte { 0 < size }
-    requires answers { AnswersWithin F.FnMut }
-    ensures { result.len ≤ length out.new }
+    requires callable { F.IsAlwaysCallable answer.old }
+    ensures in_bounds { result.len ≤ length out.new }
+    ensures callable { IsTrue result.is_whole → F.IsAlwaysCallable answer.new }
+    ensures all { IsTrue result.is_whole → ReplaysAll F.FnMut size answer.old block.now (take result.len out.new) answer.new }
+    ensures front { IsFalse result.is_whole → ReplaysFront F.FnMut size answer.old block.now (take result.len out.new) }
 {
     let mut len = 0;
-    for line in block.chunks_exact(size) {
-        let Some(n) = answer(line, &mut out[len..]) else {
-            return Answered {
-                len,
-                is_whole: false,
-            };
-        };
-        len += n;
+    let mut rest = block;
+    while let Some((line, after)) = rest.split_at_checked(size) {
+        match answer(line, &mut out[len..]) {
+            Some(n) if n <= out.len() - len => len += n,
+            _ => {
+                return Answered {
+                    len,
+                    is_whole: false,
+                };
+            }
+        }
+        rest = after;
     }
     Answered {
         len,
-        is_whole: block.len() % size == 0,
+        is_whole: rest.is_empty(),
     }
 }
 
-// Reads a block of lines and writes their answers, and answers whether there may be more lines.
-fn replay_block<R: Read, W: Write, F: FnMut(&[u8], &mut [u8]) -> Option<usize>>(
-    reader: &mut R,
-    writer: &mut W,
-    size: usize,
-    block: &mut [u8],
-    out: &mut [u8],
-    answer: &mut F,
-) -> bool
-    requires some_byte { 0 < size }
-    requires answers { AnswersWithin F.FnMut }
-{
-    let n = read_full(reader, block);
-    let answered = answer_lines(&block[..n], size, out, answer);
-    writer.write_all(&out[..answered.len]).is_ok() && answered.is_whole && n == block.len()
-}
-
 // Replays test vectors: reads lines of `size` bytes, as many at a time as block holds, and writes their answers, which out has room for. It stops
-// at a line that has no answer, and at the reader's end. `answer` puts a line's answer at the start of a slice, and answers where it ends.
+// at a line that has no answer, where the reader ends or a read fails, and where a write fails. `answer` puts a line's answer at the start of a
+// slice, and answers where it ends. A line's size is no const parameter, which a bound `FnMut` cannot name: so `0 < size` is a clause.
 pub fn replay<R: Read, W: Write, F: FnMut(&[u8], &mut [u8]) -> Option<usize>>(
     reader: &mut R,
     writer: &mut W,
@@ -172,14 +163,19 @@ pub fn replay<R: Read, W: Write, F: FnMut(&[u8], &mut [u8]) -> Option<usize>>(
     block: &mut [u8],
     out: &mut [u8],
     mut answer: F,
-)
+) -> Result<()>
     requires some_byte { 0 < size }
-    requires answers { AnswersWithin F.FnMut }
+    requires callable { F.IsAlwaysCallable answer }
+    ensures { OnOk result (Replays F.FnMut size answer (R.remaining reader.old) (R.remaining reader.new) (W.contents writer.old) (W.contents writer.new)) }
 {
     // A proved loop has to end: no run takes so many turns.
     for _ in 0..u64::MAX {
-        if !replay_block(reader, writer, size, block, out, &mut answer) {
-            return;
+        let n = read_full(reader, block);
+        let answered = answer_lines(&block[..n], size, out, &mut answer);
+        writer.write_all(&out[..answered.len])?;
+        if !answered.is_whole || n < block.len() {
+            return Ok(());
         }
     }
+    Ok(())
 }

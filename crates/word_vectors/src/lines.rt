@@ -24,8 +24,8 @@ fn put_answer(answer: Answer, out: &mut [u8; ROOM]) -> usize
     ensures { result ≤ ROOM }
 {
     match answer {
-        Some(w) => put_word_line(w, out, 0),
-        None => put_text_in_room(b"none\n", out, 0),
+        Some(w) => put_word_line(w, out),
+        None => put_text_in_room(b"none\n", out),
     }
 }
 

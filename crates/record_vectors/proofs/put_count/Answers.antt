@@ -12,7 +12,7 @@ use Rattle.record.proofs.Within.{placed-fits}
 use Rattle.record_vectors.proofs.put_count.Goals as goal
 
 -- a text that is put or not
-fits-if : (b : Bool) (out text after : List ℕ) (n : ℕ) → n ≡ cond b (length text) 0 → after ≡ cond b (placed out 0 text) out → length after ≡ length out
+fits-if : (b : Bool) (out text after : List ℕ) (n : ℕ) → n ≡ cond b (length text) 0 → after ≡ cond b (placed out text) out → length after ≡ length out
     → n ≤ length out
 fits-if true out text after n e f same = omega (arith, placed-fits out text after f same)
 fits-if false out text after n e f same = omega arith

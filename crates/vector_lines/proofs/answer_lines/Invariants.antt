@@ -1,6 +1,16 @@
--- The invariant of `vector_lines::answer_lines`: `len` lies within `out`.
-use Rattle.std.proofs.Common.{◌≤◌, ◌≡◌, length}
+-- The invariant of `vector_lines::answer_lines`: the lines before `rest` have the first `len` bytes of `out` for their answers.
+use Rattle.std.proofs.Common.{◌≤◌, ◌≡◌, ◌++◌, List, ℕ, length, take}
+use Rattle.vector_lines.specs.Replay.{ReplaysAll}
 use Rattle.vector_lines.proofs.answer_lines.Given as goal
 
 abbrev pub invariant-loop-line : goal.invariant-loop-line
-invariant-loop-line g l = (l.len ≤ length l.out) × (length l.out ≡ length l.initial.out)
+invariant-loop-line g l =
+    record {
+      within : l.len ≤ length l.out;
+      kept : length l.out ≡ length l.initial.out;
+      callable : goal.F-IsAlwaysCallable g l.answer;
+      front : (front : List ℕ) × (l.block ≡ front ++ l.rest) × ReplaysAll g.F.FnMut l.size l.initial.answer front (take l.len l.out) l.answer;
+    }
+
+abbrev pub decreases-loop-line : goal.decreases-loop-line
+decreases-loop-line g l = length l.rest

@@ -1,16 +1,10 @@
 -- `vector_lines::read_full` meets its contract: what one read gives comes behind what was given before.
-use Rattle.std.proofs.Common.{◌≡◌, ℕ, ◌+◌, ◌-◌, ◌≤◌, List, ◌++◌, arith, length, take, drop, sym, ap, ◌∙◌, subst, length-take-le, length-drop}
+use Rattle.std.proofs.Common.{◌≡◌, ◌-◌, arith, length, take, drop, ◌∙◌, subst, length-take-le, length-drop}
 use Rattle.std.proofs.KnownBytes.{Consumes-trans}
 use Rattle.std.specs.Io.KnownBytes.{Consumes}
-use borrow.Rule.Slice.PartMut.{put_mid, post_of, same_len_mid}
-use lib.Seq.{take-append-add, take-append-le}
+use borrow.Rule.Slice.PartMut.{same_len_mid}
+use Rattle.vector_lines.proofs.Replaying.{front}
 use Rattle.vector_lines.proofs.read_full.Goals as goal
-
--- the first bytes of a block, and behind them the first n of the part ys that was put there
-front : (a k n : ℕ) (xs ys : List ℕ) → a ≤ length xs → n ≤ length ys → take a xs ++ take n ys ≡ take (a + n) (put_mid a k xs ys)
-front a k n xs ys within fits =
-    let p : length (take a xs) ≡ a = length-take-le a xs within in
-    sym ((rw p at (take-append-add (take a xs) (ys ++ post_of a k xs) n)) ∙ ap (λ (m : List ℕ). take a xs ++ m) (take-append-le n ys (post_of a k xs) fits))
 
 pub loop-at-preserved : goal.loop-at-preserved
 loop-at-preserved g c =

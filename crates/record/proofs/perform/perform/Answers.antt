@@ -1,8 +1,17 @@
--- `record::perform::perform` meets its contract: a graph, or a region on which what is asked for is refused. Assumes nothing.
-use mathlib.Core.Path.{sym, ◌∙◌}
-use Rattle.graph.specs.WellFormed.{is_graph}
+-- `record::perform::perform` meets its contract: room for a line, and then the record. Assumes nothing.
+use borrow.Author.Tests.{le-leb, lt-leb}
+use Rattle.record.specs.Line.{LINE}
+use Rattle.record.specs.Perform.{record_call}
+use Rattle.record.proofs.Within.{written-front}
 use Rattle.record.proofs.perform.perform.Goals as goal
 
-pub returns-else-is_graph : goal.returns-else-is_graph
-returns-else-is_graph c =
-    rw (← c.in-Some.ensures.cases.same) (c.refuse-else-is_graph.ensures _ _ (sym c.is_graph.ensures ∙ c.if-is_graph.false))
+pub returns-in_err-line : goal.returns-in_err-line
+unfolding record_call
+returns-in_err-line c = rw (c.from_residual.ensures, lt-leb _ _ c.in_err-line.ensures.cases)
+
+pub returns : goal.returns
+unfolding record_call
+returns c =
+    let cut = c.in_ok-line.ensures.cases in
+    rw (le-leb _ _ cut.enough)
+    (written-front LINE c.args.line.now c.in_ok-line.line.now c.step_call.new.line _ _ _ _ cut.same c.step_call.ensures)

@@ -14,14 +14,14 @@ use Rattle.record.proofs.Within.{placed-fits}
 use Rattle.scalars.proofs.blocks.Memory.finish.Goals as goal
 
 -- a text that is placed at the start of a slice, or not, fits it
-fits : (b : Bool) (line text after : List ℕ) (n : ℕ) → n ≡ cond b (length text) 0 → after ≡ cond b (placed line 0 text) line → length after ≡ length line → n ≤ length line
+fits : (b : Bool) (line text after : List ℕ) (n : ℕ) → n ≡ cond b (length text) 0 → after ≡ cond b (placed line text) line → length after ≡ length line → n ≤ length line
 fits true line text after n e q s = omega (arith, e, placed-fits line text after q s)
 fits false line text after n e q s = omega (arith, e)
 
 -- the last line, put or not behind the first `at` bytes of a buffer, ends within it
 within : (b : List ℕ → Bool) (at : ℕ) (out text after : List ℕ) (n : ℕ) → at ≤ length out
     → n ≡ cond (b (take (length out - at) (drop at out))) (length text) 0
-    → after ≡ cond (b (take (length out - at) (drop at out))) (placed (take (length out - at) (drop at out)) 0 text) (take (length out - at) (drop at out))
+    → after ≡ cond (b (take (length out - at) (drop at out))) (placed (take (length out - at) (drop at out)) text) (take (length out - at) (drop at out))
     → length after ≡ length (take (length out - at) (drop at out)) → at + n ≤ length out
 within b at out text after n l e q s = omega (arith, l, rw part_from at (fits _ _ text after n e q s), length-drop at out)
 

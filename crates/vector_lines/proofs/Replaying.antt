@@ -1,0 +1,69 @@
+-- Laws of replays: what is replayed behind what was replayed, and where a line's answer stands. Assumes nothing.
+use Rattle.std.proofs.Common.{◌≡◌, ℕ, ◌+◌, ◌<◌, ◌≤◌, List, [], ◌∷◌, ◌++◌, Option, Some, refl, sym, ap, ◌∙◌, subst, append_assoc, append-nil, length, take, inl, length-take-le}
+use Rattle.std.specs.Borrow.{Bor, MutBor}
+use Rattle.std.specs.Fn.{Mut}
+use Rattle.std.specs.List.{concat}
+use borrow.Rule.Slice.PartMut.{put_mid, post_of}
+use lib.Seq.{take-append-add, take-append-le}
+use Rattle.vector_lines.specs.Replay.{Answers, AnswersAll, ReplaysAll, ReplaysFront}
+
+-- the first bytes of a block, and behind them the first n of the part ys that was put there
+pub front : (a k n : ℕ) (xs ys : List ℕ) → a ≤ length xs → n ≤ length ys → take a xs ++ take n ys ≡ take (a + n) (put_mid a k xs ys)
+front a k n xs ys within fits =
+    let p : length (take a xs) ≡ a = length-take-le a xs within in
+    sym ((rw p at (take-append-add (take a xs) (ys ++ post_of a k xs) n)) ∙ ap (λ (m : List ℕ). take a xs ++ m) (take-append-le n ys (post_of a k xs) fits))
+
+concat-append : (xs ys : List (List ℕ)) → concat (xs ++ ys) ≡ concat xs ++ concat ys
+concat-append [] ys = refl
+concat-append (x ∷ xs) ys = ap (λ (l : List ℕ). x ++ l) (concat-append xs ys) ∙ sym (append_assoc x (concat xs) (concat ys))
+
+module _ {F : Type 0} (g : Mut F (Bor (List ℕ) × (MutBor (List ℕ) × Unit {0})) (Option ℕ × (MutBor (List ℕ) × Unit {0}))) (size : ℕ) where
+  AnswersAll-append : (f mid last : F) (xs ys : List (List ℕ)) (s t : List ℕ)
+      → AnswersAll g size f xs s mid → AnswersAll g size mid ys t last → AnswersAll g size f (xs ++ ys) (s ++ t) last
+  AnswersAll-append f mid last [] ys s t p q =
+      subst (λ (u : List ℕ). AnswersAll g size f ys u last) (sym (ap (λ (u : List ℕ). u ++ t) p.0))
+      (subst (λ (h : F). AnswersAll g size h ys t last) p.1 q)
+  AnswersAll-append f mid last (x ∷ xs) ys s t p q =
+      (p.0, p.1 ++ t, p.2, p.3, p.4, AnswersAll-append p.2 mid last xs ys p.1 t p.5 q, ap (λ (u : List ℕ). u ++ t) p.6 ∙ append_assoc p.0 p.1 t)
+
+  -- nothing was read yet
+  pub ReplaysAll-nil : (f : F) → ReplaysAll g size f [] [] f
+  ReplaysAll-nil f = record { lines = []; parts = refl; answers = (refl, refl) }
+
+  -- one line
+  pub ReplaysAll-line : (f next : F) (line answer : List ℕ) → length line ≡ size → Answers g f line (Some answer) next → ReplaysAll g size f line answer next
+  ReplaysAll-line f next line answer e p = record {
+    lines = line ∷ [];
+    parts = sym (append-nil line);
+    answers = (answer, [], next, e, p, (refl, refl), sym (append-nil answer));
+  }
+
+  pub ReplaysAll-append : (f mid last : F) (a b s t : List ℕ)
+      → ReplaysAll g size f a s mid → ReplaysAll g size mid b t last → ReplaysAll g size f (a ++ b) (s ++ t) last
+  ReplaysAll-append f mid last a b s t p q = record {
+    lines = p.lines ++ q.lines;
+    parts = ap (λ (l : List ℕ). l ++ b) p.parts ∙ ap (λ (l : List ℕ). concat p.lines ++ l) q.parts ∙ sym (concat-append p.lines q.lines);
+    answers = AnswersAll-append f mid last p.lines q.lines s t p.answers q.answers;
+  }
+
+  -- the bytes end behind a line
+  pub ReplaysFront-all : (f last : F) (bytes text : List ℕ) → 0 < size → ReplaysAll g size f bytes text last → ReplaysFront g size f bytes text
+  ReplaysFront-all f last bytes text some p = record {
+    front = bytes;
+    rest = [];
+    last = last;
+    parts = sym (append-nil bytes);
+    replays = p;
+    stops = inl some;
+  }
+
+  pub ReplaysFront-append : (f mid : F) (a b s t : List ℕ)
+      → ReplaysAll g size f a s mid → ReplaysFront g size mid b t → ReplaysFront g size f (a ++ b) (s ++ t)
+  ReplaysFront-append f mid a b s t p q = record {
+    front = a ++ q.front;
+    rest = q.rest;
+    last = q.last;
+    parts = ap (λ (l : List ℕ). a ++ l) q.parts ∙ sym (append_assoc a q.front q.rest);
+    replays = ReplaysAll-append f mid q.last a q.front s t p q.replays;
+    stops = q.stops;
+  }
