@@ -104,6 +104,8 @@ fn read_some(mut stdin: Stdin, input: &mut [u8]) -> usize
     stdin.read(input).unwrap_or(0)
 }
 
+// Reads once behind the first `filled` bytes, which the turn before left, and drains the buffer. `filled` is no place that a caller could cut
+// off: what is left goes back to the buffer's start.
 pub(crate) fn turn(
     stdin: Stdin,
     stdout: Stdout,
