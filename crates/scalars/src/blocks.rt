@@ -109,6 +109,8 @@ impl Memory {
         }
     }
 
+    // Reads once behind the first `filled` bytes, which the turn before left, and drains the buffer. `filled` is no place that a caller could cut
+    // off: what is left goes back to the buffer's start.
     pub(crate) fn turn(
         &mut self,
         stdin: Stdin,

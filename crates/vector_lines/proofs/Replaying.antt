@@ -1,8 +1,12 @@
 -- Laws of replays: what is replayed behind what was replayed, and where a line's answer stands. Assumes nothing.
-use Rattle.std.proofs.Common.{◌≡◌, ℕ, ◌+◌, ◌<◌, ◌≤◌, List, [], ◌∷◌, ◌++◌, Option, Some, refl, sym, ap, ◌∙◌, subst, append_assoc, append-nil, length, take, inl, length-take-le}
+use Rattle.std.proofs.Common.{◌*◌, ◌%◌, arith, eqb, true, length-append, ◌≡◌, ℕ, ◌+◌, ◌<◌, ◌≤◌, List, [], ◌∷◌, ◌++◌, Option, Some, refl, sym, ap, ◌∙◌, subst, append_assoc, append-nil, length, take, inl, length-take-le}
 use Rattle.std.specs.Borrow.{Bor, MutBor}
 use Rattle.std.specs.Fn.{Mut}
 use Rattle.std.specs.List.{concat}
+use Rattle.std.proofs.Math.Nat.{zero-mul, suc-mul}
+use Rattle.std.proofs.lemmas.Bool.{eqb-true}
+use Rattle.std.proofs.lemmas.List.{nil_from_length}
+use Rattle.std.proofs.lemmas.Nat.{mod-mul-add}
 use borrow.Rule.Slice.PartMut.{put_mid, post_of}
 use lib.Seq.{take-append-add, take-append-le}
 use Rattle.vector_lines.specs.Replay.{Answers, AnswersAll, ReplaysAll, ReplaysFront}
@@ -45,6 +49,20 @@ module _ {F : Type 0} (g : Mut F (Bor (List ℕ) × (MutBor (List ℕ) × Unit {
     parts = ap (λ (l : List ℕ). l ++ b) p.parts ∙ ap (λ (l : List ℕ). concat p.lines ++ l) q.parts ∙ sym (concat-append p.lines q.lines);
     answers = AnswersAll-append f mid last p.lines q.lines s t p.answers q.answers;
   }
+
+  lines_size : (f last : F) (lines : List (List ℕ)) (text : List ℕ) → AnswersAll g size f lines text last → length (concat lines) ≡ length lines * size
+  lines_size f last [] text p = sym (zero-mul size)
+  lines_size f last (line ∷ lines) text p =
+      length-append line (concat lines) ∙ rw (p.3, lines_size p.2 last lines p.1 p.5) (omega (arith, suc-mul (length lines) size))
+
+  -- no byte is left if a block has as many as some lines
+  pub ReplaysAll-whole : (f last : F) (block front rest text : List ℕ) → ReplaysAll g size f front text last → block ≡ front ++ rest
+      → length rest < size → eqb (length block % size) 0 ≡ true → ReplaysAll g size f block text last
+  ReplaysAll-whole f last block front rest text p e short even =
+      let size_of : length block ≡ length p.lines * size + length rest =
+      ap length e ∙ length-append front rest ∙ ap (λ (n : ℕ). n + length rest) (ap length p.parts ∙ lines_size f last p.lines text p.answers) in
+      let none : length rest ≡ 0 = rw (size_of, mod-mul-add (length p.lines) size (length rest) short) at (eqb-true _ _ even) in
+      subst (λ (m : List ℕ). ReplaysAll g size f m text last) (sym (e ∙ rw (nil_from_length rest none) (append-nil front))) p
 
   -- the bytes end behind a line
   pub ReplaysFront-all : (f last : F) (bytes text : List ℕ) → 0 < size → ReplaysAll g size f bytes text last → ReplaysFront g size f bytes text

@@ -134,8 +134,7 @@ fn answer_lines<F: FnMut(&[u8], &mut [u8]) -> Option<usize>>(
     ensures front { IsFalse result.is_whole → ReplaysFront F.FnMut size answer.old block.now (take result.len out.new) }
 {
     let mut len = 0;
-    let mut rest = block;
-    while let Some((line, after)) = rest.split_at_checked(size) {
+    for line in block.chunks_exact(size) {
         match answer(line, &mut out[len..]) {
             Some(n) if n <= out.len() - len => len += n,
             _ => {
@@ -145,11 +144,10 @@ fn answer_lines<F: FnMut(&[u8], &mut [u8]) -> Option<usize>>(
                 };
             }
         }
-        rest = after;
     }
     Answered {
         len,
-        is_whole: rest.is_empty(),
+        is_whole: block.len() % size == 0,
     }
 }
 

@@ -1,9 +1,12 @@
 -- `vector_lines::answer_lines` meets its contract: a line's answer comes behind those of the lines before it. Assumes nothing.
-use Rattle.std.proofs.Common.{◌≡◌, ◌-◌, ◌≤◌, ◌++◌, ap, sym, refl, subst, ◌∙◌, append_assoc, Some, arith, List, ℕ, length, take, drop, take-append-drop, length-take-le, length-drop, le-leb}
-use borrow.Rule.Slice.PartMut.{same_len_mid}
+use Rattle.std.proofs.Common.{◌≡◌, ◌-◌, ◌≤◌, ◌<◌, ◌++◌, ap, sym, refl, subst, ◌∙◌, append_assoc, Some, arith, List, ℕ, length, take, drop, length-take-le, length-drop, inr}
+use Rattle.std.proofs.lemmas.Bool.{le-leb, lt-leb}
+use borrow.Rule.Slice.PartMut.{same_len_mid, take_put}
 use denote.Param.Always.{mut_next}
+use lib.Seq.{take_at}
+use Rattle.std.specs.Slice.Iter.{chunks_exact_rest}
 use Rattle.vector_lines.specs.Replay.{Answers, ReplaysAll}
-use Rattle.vector_lines.proofs.Replaying.{front, ReplaysAll-append, ReplaysAll-line}
+use Rattle.vector_lines.proofs.Replaying.{front, ReplaysAll-append, ReplaysAll-line, ReplaysAll-whole}
 use Rattle.vector_lines.proofs.answer_lines.Goals as goal
 
 pub loop-line-preserved : goal.loop-line-preserved
@@ -12,25 +15,58 @@ loop-line-preserved g c =
     let n = c.in-Some-answer.n in
     let left = c.answer.new.arg3 in
     let line = c.in-Some.line.now in
-    let cut = c.in-Some.ensures.cases in
+    let step = c.in-Some.ensures.steps in
     let room = length l.out - l.len in
     let part : length (take room (drop l.len l.out)) ≡ room = length-take-le room (drop l.len l.out) (omega (arith, length-drop l.len l.out)) in
     let whole = same_len_mid l.len room l.out left c.answer.auto.arg3 in
     let fits : n ≤ length left = omega (arith, part, whole, c.answer.auto.arg3, c.if-n-out.true) in
     let called : Answers g.F.FnMut l.answer line (Some (take n left)) c.answer.new.self =
     record { shown = _; lent = _; left = _; end = Some n; shows = refl; called = c.in-Some-answer.ensures; leaves = rw (le-leb n (length left) fits) refl } in
-    let more = ReplaysAll-line g.F.FnMut c.args.size _ _ line (take n left) cut.3 called in
+    let more = ReplaysAll-line g.F.FnMut c.args.size _ _ line (take n left) (step.1.1 ∙ l.invariant.size) called in
     let before = l.invariant.front in
     let text = front l.len room n l.out left l.invariant.within fits in
-    let split : l.rest.now ≡ line ++ c.in-Some.after.now = rw (cut.1, cut.2) (sym (take-append-drop c.args.size l.rest.now)) in
     record {
       within = omega (arith, whole, part, fits, c.answer.auto.arg3);
       kept = whole ∙ l.invariant.kept;
       callable = mut_next g.F.FnMut _ _ _ _ _ c.in-Some-answer.ensures refl l.invariant.callable;
+      size = step.0 ∙ l.invariant.size;
       front = (
         before.0 ++ line,
-        before.1 ∙ ap (λ (m : List ℕ). before.0 ++ m) split ∙ sym (append_assoc before.0 line c.in-Some.after.now),
+        before.1 ∙ ap (λ (m : List ℕ). before.0 ++ m) step.1.0 ∙ sym (append_assoc before.0 line (chunks_exact_rest c.next.new.self)),
         subst (λ (m : List ℕ). ReplaysAll g.F.FnMut c.args.size c.args.answer.now (before.0 ++ line) m c.answer.new.self) text
             (ReplaysAll-append g.F.FnMut c.args.size _ _ _ before.0 line (take l.len l.out) (take n left) before.2 more),
       );
     }
+
+pub returns-in_default-clause-front : goal.returns-in_default-clause-front
+returns-in_default-clause-front g c _ =
+    let l = c.loop-line in
+    let n = c.in-Some-answer.n in
+    let left = c.answer.new.arg3 in
+    let step = c.in-Some.ensures.steps in
+    let before = l.invariant.front in
+    let rest = chunks_exact_rest l.line-iterator in
+    let line : c.in-Some.line.now ≡ take c.args.size rest =
+    rw step.1.0 (sym (take_at c.in-Some.line.now (chunks_exact_rest c.next.new.self) c.args.size (step.1.1 ∙ l.invariant.size))) in
+    let room = length l.out - l.len in
+    let part : length (take room (drop l.len l.out)) ≡ room = length-take-le room (drop l.len l.out) (omega (arith, length-drop l.len l.out)) in
+    let whole = same_len_mid l.len room l.out left c.answer.auto.arg3 in
+    let over : length left < n = omega (arith, part, whole, c.answer.auto.arg3, c.if-n-out.false) in
+    record {
+      front = before.0;
+      rest = rest;
+      last = l.answer;
+      parts = before.1;
+      replays = subst (λ (m : List ℕ). ReplaysAll g.F.FnMut c.args.size c.args.answer.now before.0 m l.answer) (sym (take_put l.len room l.out left l.invariant.within)) before.2;
+      stops = inr (
+        c.answer.new.self,
+        record { shown = _; lent = _; left = _; end = Some n; shows = line; called = c.in-Some-answer.ensures; leaves = rw (lt-leb n (length left) over) refl },
+      );
+    }
+
+pub returns-clause-all : goal.returns-clause-all
+returns-clause-all g c even =
+    let l = c.loop-line in
+    let step = c.in-None.ensures.steps in
+    ReplaysAll-whole g.F.FnMut c.args.size _ _ c.args.block.now l.invariant.front.0 (chunks_exact_rest l.line-iterator) _
+    l.invariant.front.2 l.invariant.front.1 (rw l.invariant.size at step.1.0) even
