@@ -1,24 +1,13 @@
--- Laws of the walk down a chain of Refines, one step each, and of words. Assumes nothing.
+-- Laws of words. Assumes nothing.
 use mathlib.Core.Path.{◌≡◌, ◌∙◌}
 use mathlib.Core.Bool.{true, false}
-use mathlib.Core.List.{List}
-use Rattle.std.specs.Prelude.{Some}
-use Prim.Native.Nat.{ℕ, suc, ◌+◌, ◌-◌, ◌%◌, ◌^◌, ◌<◌}
+use Prim.Native.Nat.{ℕ, ◌+◌, ◌-◌, ◌%◌, ◌^◌, ◌<◌}
 use native.Mathlib.Nat.{add-mod_right, mod-eq_of_lt}
 use native.Mathlib.Omega.{arith}
 use lib.Count.{ones}
 use Rattle.word.specs.Value.{val, is_power_of_two}
 use Rattle.word.specs.declared.Word.{Word}
 use Rattle.word.proofs.Products.{val_low}
-use Rattle.fold.specs.Shape.{refined_at, down}
-
--- ---- down a chain of Refines
-
-module _ (g : List ℕ) (n : ℕ) where
-  pub down_on : (k j p : ℕ) → k ≡ suc j → refined_at g n ≡ Some p → down g k n ≡ down g j p
-  down_on k j p h e = rw (h, e)
-
--- ---- words
 
 -- words below a width
 module _ (w : Word) (n : ℕ) (short : n < 2 ^ 16) (below : val w < n) where

@@ -4,8 +4,9 @@ ghost use Rattle.range.specs.Interval.{interval_of};
 ghost use Rattle.fold.specs.Shape.{narrow_type, not_negative, fits, maybe_by_constant_of, by_constant_at, id_of, refined_at, origin};
 
 use crate::ByConstant;
-use graph::layout::{LIMIT, Region};
+use graph::layout::Region;
 use graph::read::{literal, operation_at};
+use graph::walk::walk;
 use graph::{NodeId, Operation};
 use range::{Range, ScalarType};
 
@@ -56,12 +57,5 @@ pub fn refined_at(g: &Region, id: NodeId) -> Option<NodeId>
 pub fn origin(g: &Region, id: NodeId) -> NodeId
     ensures { result.0 ≡ origin g.now id.0 }
 {
-    let mut at = id;
-    for _ in 0..LIMIT {
-        let Some(source) = refined_at(g, at) else {
-            return at;
-        };
-        at = source;
-    }
-    at
+    walk(id, |at: NodeId| refined_at(g, at))
 }

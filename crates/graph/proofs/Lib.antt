@@ -11,4 +11,5 @@ pub mod Earlier
 pub mod Appended
 pub mod Aliases
 pub mod Words
+pub mod Chains
 pub mod Lowest

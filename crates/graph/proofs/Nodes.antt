@@ -4,9 +4,9 @@ use mathlib.Core.Bool.{false}
 use mathlib.Core.List.{List, ◌++◌}
 use mathlib.Core.Logic.{⊎_elim}
 use Rattle.std.specs.Prelude.{Option}
-use Prim.Native.Nat.{ℕ, zero, suc, ◌+◌, ◌-◌, ◌<◌, ◌≤◌}
+use Prim.Native.Nat.{ℕ, suc, ◌+◌, ◌-◌, ◌<◌, ◌≤◌}
 use native.Mathlib.Omega.{arith}
-use borrow.Author.Tests.{eq-eqb, ne_eqb, lt-ltb}
+use borrow.Author.Tests.{ne_eqb, lt-ltb}
 use lib.Dec.{ltb, lit<}
 use lib.ListN.{length, get_or, set, take, drop, length-set, get_or-append}
 use lib.Seq.{paste, get_or-take, get_or-drop, get_or-append-add, get_or-set_same, get_or-set_other, length-paste, length_paste_head, length-take-le}
@@ -22,10 +22,6 @@ use Rattle.graph.proofs.Codes.{Stored, pair_back, type_back, range_back, operati
 -- ---- the chain of aliases
 
 module _ (g : List ℕ) (n : ℕ) where
-  pub follow_end : (k : ℕ) → alias_at g n ≡ 0 → follow g k n ≡ n
-  follow_end zero e = refl
-  follow_end (suc k) e = rw (eq-eqb (alias_at g n) 0 e)
-
   pub follow_on : (k : ℕ) → (alias_at g n ≡ 0 → ⊥) → follow g (suc k) n ≡ follow g k (alias_at g n - 1)
   follow_on k h = rw (ne_eqb (alias_at g n) 0 h)
 

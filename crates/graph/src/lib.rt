@@ -8,6 +8,7 @@ pub mod insert;
 pub mod layout;
 pub mod leaf;
 pub mod read;
+pub mod walk;
 pub mod well_formed;
 
 use evaluate::{Binary, Unary};

@@ -7,9 +7,10 @@ ghost use Rattle.graph.specs.Node.{type_of, range_of, operation_of, op_of, type_
 ghost use Rattle.graph.specs.Insert.{literal, resolve};
 
 use crate::layout::{
-    ALIAS, CONCAT, CONSTANT, EFFECT, INPUT, LIMIT, MAX, MIN, OPERATION, RANGE, REFINE, Region,
-    SLICE, TYPE, WIDTH, X, Y, Z, pair_at, word_at,
+    ALIAS, CONCAT, CONSTANT, EFFECT, INPUT, MAX, MIN, OPERATION, RANGE, REFINE, Region, SLICE,
+    TYPE, WIDTH, X, Y, Z, pair_at, word_at,
 };
+use crate::walk::walk;
 use crate::{EffectId, InputId, Node, NodeId, Operation};
 use evaluate::code::{BINARY, BITS, BOOL, binary_of, unary_of};
 use range::{Range, ScalarType};
@@ -125,13 +126,8 @@ pub fn literal(g: &Region, id: NodeId) -> Option<Word>
 pub fn resolve(g: &Region, id: NodeId) -> NodeId
     ensures { result.0 ≡ resolve g.now id.0 }
 {
-    let NodeId(mut at) = id;
-    for _ in 0..LIMIT {
-        let alias = word_at(g, at, ALIAS);
-        if alias == 0 {
-            return NodeId(at);
-        }
-        at = alias - 1;
-    }
-    NodeId(at)
+    walk(id, |at: NodeId| {
+        let alias = word_at(g, at.0, ALIAS);
+        Some(NodeId(alias.checked_sub(1)?))
+    })
 }

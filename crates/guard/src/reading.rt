@@ -7,8 +7,9 @@ ghost use Rattle.guard.specs.Condition.{condition_of, negated_of, negated_at, be
 use crate::{Comparison, Condition};
 use evaluate::Unary;
 use fold::operator::is_comparison;
-use graph::layout::{LIMIT, Region};
+use graph::layout::Region;
 use graph::read::operation_at;
+use graph::walk::walk;
 use graph::{NodeId, Operation};
 
 fn negated_of(operation: Operation) -> Option<NodeId>
@@ -32,17 +33,13 @@ fn negated_at(g: &Region, id: NodeId) -> Option<NodeId>
 pub fn behind_nots(g: &Region, id: NodeId, expected: bool) -> Condition
     ensures { condition_of result ≡ behind_nots g.now id.0 expected }
 {
-    let mut at = Condition { node: id, expected };
-    for _ in 0..LIMIT {
-        let Some(node) = negated_at(g, at.node) else {
-            return at;
-        };
-        at = Condition {
-            node,
+    let condition = Condition { node: id, expected };
+    walk(condition, |at: Condition| {
+        Some(Condition {
+            node: negated_at(g, at.node)?,
             expected: !at.expected,
-        };
-    }
-    at
+        })
+    })
 }
 
 fn compared_by(operation: Operation) -> Option<Comparison>

@@ -1,27 +1,25 @@
--- Laws of the walk down a chain of Refines to a type, one step each, and what the test for None tells.
+-- The way down a chain of Refines to a type, by the steps left, and what the test for None tells.
 use mathlib.Core.Path.{◌≡◌, refl}
 use mathlib.Core.Bool.{true, false, false≢true}
 use mathlib.Core.List.{List}
-use Rattle.std.specs.Prelude.{Some}
-use Prim.Native.Nat.{ℕ, zero, suc, ◌<◌}
-use native.Mathlib.Omega.{arith}
+use Prim.Native.Nat.{ℕ}
 use Rattle.range.specs.declared.ScalarType.{ScalarType}
-use Rattle.graph.specs.Node.{type_at}
-use Rattle.fold.specs.Shape.{same_type, refined_at}
 use Rattle.plan.specs.declared.Plan as declared
 use Rattle.plan.specs.declared.Plan.TheVariants as plan
 use Rattle.plan.specs.Plan as spec
 use Rattle.plan.specs.Plan.{Plan, stop, plan_of, is_stop}
-use Rattle.plan.specs.OneOperand.{same, view_from}
+use Rattle.plan.specs.declared.View as declared-view
+use Rattle.plan.specs.declared.View.TheVariants as view
+use Rattle.plan.specs.OneOperand.{View, same, view_from, view_of}
 
-module _ (g : List ℕ) (n : ℕ) where
-  pub view_same : (t : ScalarType) (k p : ℕ) → 0 < k → refined_at g n ≡ Some p → same_type (type_at g p) t ≡ true → view_from g t k n ≡ same p
-  view_same t zero p h e f = absurd (omega arith)
-  view_same t (suc k) p h e f = rw (e, f)
+-- what is left of the way down from a View of the code, by the steps left
+abbrev pub onward : List ℕ → ScalarType → ℕ → declared-view.View → View
+onward g t k (view.Same i) = same i.0
+onward g t k (view.Source i) = view_from g t k i.0
 
-  pub view_on : (t : ScalarType) (k j p : ℕ) → k ≡ suc j → refined_at g n ≡ Some p → same_type (type_at g p) t ≡ false
-      → view_from g t k n ≡ view_from g t j p
-  view_on t k j p h e f = rw (h, e, f)
+pub onward_none : (g : List ℕ) (t : ScalarType) (v : declared-view.View) → onward g t 0 v ≡ view_of v
+onward_none g t (view.Same i) = refl
+onward_none g t (view.Source i) = refl
 
 -- a plan of the code that is not None
 pub no_stop : (p : declared.Plan) → (p ≡ plan.None → ⊥) → is_stop (plan_of p) ≡ false

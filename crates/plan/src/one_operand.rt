@@ -13,8 +13,9 @@ use evaluate::one_operand::unary_value;
 use fold::new_range::unary_range;
 use fold::operator::is_modular;
 use fold::shape::{fits, is_not_negative, refined_at};
-use graph::layout::{LIMIT, Region};
+use graph::layout::Region;
 use graph::read::{literal, operation_at, range_at, resolve, type_at};
+use graph::walk::walk;
 use graph::{NodeId, Operation};
 use range::{Range, ScalarType};
 use word::Word;
@@ -110,21 +111,21 @@ pub fn unary_first(g: &Region, ty: ScalarType, op: Unary, value: NodeId) -> Firs
 }
 
 // Down a chain of Refines to the first source of the type, or to where the chain starts.
-#[tactic(auto, using(crate::proofs::Laws::view_same, crate::proofs::Laws::view_on), unfolding(crate::specs::OneOperand::view_at))]
+
 fn view_at(g: &Region, ty: ScalarType, id: NodeId) -> View
     ensures { view_of result ≡ view_at g.now ty id.0 }
 {
-    let mut at = id;
-    for _ in 0..LIMIT {
-        let Some(previous) = refined_at(g, at) else {
-            return View::Source(at);
+    walk(View::Source(id), |view: View| {
+        let View::Source(at) = view else {
+            return None;
         };
+        let previous = refined_at(g, at)?;
         if type_at(g, previous) == ty {
-            return View::Same(previous);
+            Some(View::Same(previous))
+        } else {
+            Some(View::Source(previous))
         }
-        at = previous;
-    }
-    View::Source(at)
+    })
 }
 
 // Integer, or Bits of at least that width: a narrower reduction has to stay visible.

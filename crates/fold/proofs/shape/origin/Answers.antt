@@ -1,17 +1,14 @@
-use mathlib.Core.Path.{◌≡◌, refl, sym, ◌∙◌}
-use Prim.Native.Nat.{suc, ◌+◌, ◌-◌}
-use native.Mathlib.Omega.{arith}
-use Rattle.graph.specs.Layout.{LIMIT}
-use Rattle.fold.specs.Shape.{origin}
-use Rattle.fold.proofs.Laws.{down_on}
+-- `origin` meets its contract: a step of the walk is one down the chain of Refines.
+use Rattle.std.proofs.Common.{◌≡◌, rules, refl, None, Some}
+use Rattle.graph.proofs.Chains.{walked_as}
+use Rattle.fold.specs.Shape.{refined_at, down, origin}
 use Rattle.fold.proofs.shape.origin.Goals as goal
 
-pub loop-init : goal.loop-init
+pub returns : goal.returns
 unfolding origin
-loop-init c = refl
-
-pub loop-preserved : goal.loop-preserved
-loop-preserved c =
-    let l = c.loop in
-    let e : LIMIT - l.counter ≡ suc (LIMIT - (l.counter + 1)) = omega arith in
-    l.invariant ∙ down_on c.args.g.now l.at.0 _ _ _ e (sym c.in-Some.ensures)
+returns c =
+    let g = c.args.g.now in
+    walked_as _ (λ a. a.0) (λ k a. down g k a.0) (λ a. refl)
+    (λ k a p. let e : refined_at g a.0 ≡ None = search rules in rw e)
+    (λ k a b p. let e : refined_at g a.0 ≡ Some b.0 = search rules in rw e)
+    _ _ c.walk.ensures
