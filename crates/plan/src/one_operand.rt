@@ -111,7 +111,6 @@ pub fn unary_first(g: &Region, ty: ScalarType, op: Unary, value: NodeId) -> Firs
 }
 
 // Down a chain of Refines to the first source of the type, or to where the chain starts.
-
 fn view_at(g: &Region, ty: ScalarType, id: NodeId) -> View
     ensures { view_of result ≡ view_at g.now ty id.0 }
 {
