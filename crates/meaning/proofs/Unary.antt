@@ -10,7 +10,7 @@ use borrow.Author.Tests.{ltb-true, leb-true, ne_eqb}
 use lib.Bits.{and_lt, or_lt, xor_lt}
 use lib.Count.{leading_le, trailing_le}
 use lib.Dec.{ltb, leb, eqb, lit<}
-use lib.IntN.{ℤ, pos, nat_abs, neg_ℤ, ◌-ℤ◌}
+use lib.IntN.{ℤ, pos, nat_abs, neg_ℤ}
 use lib.Pow.{pow_pos, pow_mono}
 use lib.Signed.{mag, le_z, lt_z, ◌≤ℤ◌, mag_shr}
 use Rattle.word.specs.Value.{residue, signed, fitted, quotient, min_z, max_z}
@@ -46,7 +46,7 @@ use Rattle.meaning.proofs.Worlds.{World, operand, value}
 use Rattle.meaning.proofs.Values.{typed_is, then_is, truth_small}
 use Rattle.meaning.proofs.Invariant.{stored_typed, Ends, Inv, inv_width, inv_valid, Storable}
 use Rattle.meaning.proofs.Answers.{both_given_lem, by_test, of_any, among, answering, Each, each_none, each_some, each_provided, each_mapped, each_else}
-use Rattle.meaning.proofs.Constants.{stored_low, stored_high}
+use Rattle.meaning.proofs.Constants.{stored_of}
 use Rattle.meaning.proofs.Plans.{Covers, Claim}
 use Rattle.meaning.proofs.Views.{same_type_lem, value_small, value_pattern, covers_truncate, fits_facts, fits_small}
 use Rattle.meaning.proofs.Ranges.{bits_rules, integer_rules, fitted_is, quotient_is, type-ends, stored_within, held_at}
@@ -111,18 +111,7 @@ at_most_small z (Some m) f g = each_some Small _ (min_small z m f (g m refl))
 
 -- a range cut to a size, stretched to 0, goes no further than its ends and 0
 cut-ends : (a : Interval) (m : ℤ) → Ends a → Ends (cut a m)
-cut-ends a m e = record {
-  low =
-      let x = max_z a.low (pos 1 -ℤ m) in
-      between_small (2 ^ 127) (min_z a.low (pos 0)) (pos 0) (min_z x (pos 0))
-      (le-min x (pos 0) _ (omega (orders, extremes a.low (pos 0), extremes a.low (pos 1 -ℤ m))) (extremes a.low (pos 0)).1)
-      (extremes x (pos 0)).1 (min_small a.low (pos 0) e.low (pow_pos 127)) (pow_pos 127);
-  high =
-      let x = min_z a.high (m -ℤ pos 1) in
-      between_small (2 ^ 127) (pos 0) (max_z a.high (pos 0)) (max_z x (pos 0)) (extremes x (pos 0)).3
-      (max-le x (pos 0) _ (omega (orders, extremes a.high (pos 0), extremes a.high (m -ℤ pos 1))) (extremes a.high (pos 0)).3)
-      (pow_pos 127) (max_small a.high (pos 0) e.high (pow_pos 127));
-}
+cut-ends a m e = search (arith, between_small, le-min, orders, extremes, min_small, pow_pos, max-le, max_small)
 
 cut_to-ends : (a : Interval) (o p : Option ℤ) → Ends a → Each Ends (cut_to a o p)
 cut_to-ends a None p e = each_none Ends
@@ -171,11 +160,7 @@ module _ (a b : Interval) (f : Ends a) (g : Ends b) where
 
   shr-ends : Each Ends (shr_interval a b)
   unfolding shr_interval
-  shr-ends =
-      each_provided Ends (nonnegative a && nonnegative b) (λ q. each_some Ends _ (record {
-        low = lt_of_le_of_lt (mag_shr a.low _) f.low;
-        high = lt_of_le_of_lt (mag_shr a.high _) f.high;
-      }))
+  shr-ends = search (arith, each_provided, each_some, lt_of_le_of_lt, mag_shr)
 
   integer_ends : (o : Binary) → Each Ends (integer_rule o a b)
   integer_ends = each_integer Ends a b add-ends sub-ends mul-ends and-ends quot_ends rem_ends udiv_ends urem_ends
@@ -209,14 +194,7 @@ binary-ends o ty.Integer ra rb r f g e =
 
 extended-ends : (w : ℕ) → Each Ends (sign_extended w)
 unfolding sign_extended
-extended-ends w a e =
-    let p = provided_is (ltb 0 w && ltb w 128) _ e in
-    let l : w < 128 = ltb-true w 128 (tests (ltb 0 w) (ltb w 128) p.0).1 in
-    let k : w - 1 ≤ 127 = omega arith in
-    let h : 0 < 2 ^ (w - 1) = pow_pos (w - 1) in
-    let b : 2 ^ (w - 1) - 1 < 2 ^ (w - 1) = omega arith in
-    let m : 2 ^ (w - 1) ≤ 2 ^ 127 = pow_mono k in
-    each_some Ends _ (record { low = negative_below (2 ^ (w - 1)) (2 ^ 127) (pow_pos 127) m; high = lt_of_lt_of_le b m }) a p.1
+extended-ends w a e = search (arith, provided_is, ltb-true, tests, pow_pos, pow_mono, each_some, negative_below, lt_of_lt_of_le)
 
 negated_ends : (a : Interval) → Each Ends (neg_interval a)
 unfolding neg_interval
@@ -459,13 +437,7 @@ module _ {ρ : World} {g : List ℕ} (i : Inv ρ g) (n : ℕ) (l : n < count_of 
   unary_storable r e =
       let ends = unary-ends o t (range_at g n) r (i.ends n l) e in
       record {
-        stored = record {
-          width = omega arith;
-          low = stored_low r ends;
-          high = stored_high r ends;
-          offset = omega arith;
-          parameter = omega arith;
-        };
+        stored = stored_of wide ends (omega arith) width;
         width = wide;
         below = omega arith;
         offset = omega arith;
