@@ -1,15 +1,14 @@
 -- Laws of replays: what is replayed behind what was replayed, and where a line's answer stands. Assumes nothing.
-use Rattle.std.proofs.Common.{◌*◌, ◌%◌, arith, eqb, true, length-append, ◌≡◌, ℕ, ◌+◌, ◌<◌, ◌≤◌, List, [], ◌∷◌, ◌++◌, Option, Some, refl, sym, ap, ◌∙◌, subst, append_assoc, append-nil, length, take, inl, length-take-le}
+use Rattle.std.proofs.Common.{◌*◌, ◌%◌, ◌/◌, ◌-◌, arith, length-append, ◌≡◌, ℕ, ◌+◌, ◌<◌, ◌≤◌, List, [], ◌∷◌, ◌++◌, Option, Some, refl, sym, ap, ◌∙◌, subst, append_assoc, append-nil, length, take, length-take-le}
 use Rattle.std.specs.Borrow.{Bor, MutBor}
 use Rattle.std.specs.Fn.{Mut}
 use Rattle.std.specs.List.{concat}
-use Rattle.std.proofs.Math.Nat.{zero-mul, suc-mul}
-use Rattle.std.proofs.lemmas.Bool.{eqb-true}
+use Rattle.std.proofs.Math.Nat.{zero-mul, suc-mul, mul-mod_left, div-add-mod}
 use Rattle.std.proofs.lemmas.List.{nil_from_length}
 use Rattle.std.proofs.lemmas.Nat.{mod-mul-add}
 use borrow.Rule.Slice.PartMut.{put_mid, post_of}
 use lib.Seq.{take-append-add, take-append-le}
-use Rattle.vector_lines.specs.Replay.{Answers, AnswersAll, ReplaysAll, ReplaysFront}
+use Rattle.vector_lines.specs.Replay.{Answers, AnswersAll, ReplaysAll, ReplaysWhole, ReplaysSome}
 
 -- the first bytes of a block, and behind them the first n of the part ys that was put there
 pub front : (a k n : ℕ) (xs ys : List ℕ) → a ≤ length xs → n ≤ length ys → take a xs ++ take n ys ≡ take (a + n) (put_mid a k xs ys)
@@ -56,32 +55,38 @@ module _ {F : Type 0} (g : Mut F (Bor (List ℕ) × (MutBor (List ℕ) × Unit {
       length-append line (concat lines) ∙ rw (p.3, lines_size p.2 last lines p.1 p.5) (omega (arith, suc-mul (length lines) size))
 
   -- no byte is left if a block has as many as some lines
-  pub ReplaysAll-whole : (f last : F) (block front rest text : List ℕ) → ReplaysAll g size f front text last → block ≡ front ++ rest
-      → length rest < size → eqb (length block % size) 0 ≡ true → ReplaysAll g size f block text last
-  ReplaysAll-whole f last block front rest text p e short even =
-      let size_of : length block ≡ length p.lines * size + length rest =
-      ap length e ∙ length-append front rest ∙ ap (λ (n : ℕ). n + length rest) (ap length p.parts ∙ lines_size f last p.lines text p.answers) in
-      let none : length rest ≡ 0 = rw (size_of, mod-mul-add (length p.lines) size (length rest) short) at (eqb-true _ _ even) in
-      subst (λ (m : List ℕ). ReplaysAll g size f m text last) (sym (e ∙ rw (nil_from_length rest none) (append-nil front))) p
+  pub ReplaysWhole-all : (f last : F) (block text : List ℕ) → length block % size ≡ 0 → ReplaysWhole g size f block text last → ReplaysAll g size f block text last
+  ReplaysWhole-all f last block text even p =
+      let size_of : length block ≡ length p.replays.lines * size + length p.rest =
+      ap length p.parts ∙ length-append p.front p.rest
+      ∙ ap (λ (n : ℕ). n + length p.rest) (ap length p.replays.parts ∙ lines_size f last p.replays.lines text p.replays.answers) in
+      let none : length p.rest ≡ 0 = rw (size_of, mod-mul-add (length p.replays.lines) size (length p.rest) p.less) at even in
+      subst (λ (m : List ℕ). ReplaysAll g size f m text last) (sym (p.parts ∙ rw (nil_from_length p.rest none) (append-nil p.front))) p.replays
 
-  -- the bytes end behind a line
-  pub ReplaysFront-all : (f last : F) (bytes text : List ℕ) → 0 < size → ReplaysAll g size f bytes text last → ReplaysFront g size f bytes text
-  ReplaysFront-all f last bytes text some p = record {
-    front = bytes;
-    rest = [];
-    last = last;
-    parts = sym (append-nil bytes);
-    replays = p;
-    stops = inl some;
+  pub ReplaysWhole-append : (f mid last : F) (a b s t : List ℕ)
+      → ReplaysAll g size f a s mid → ReplaysWhole g size mid b t last → ReplaysWhole g size f (a ++ b) (s ++ t) last
+  ReplaysWhole-append f mid last a b s t p q = record {
+    front = a ++ q.front;
+    rest = q.rest;
+    parts = ap (λ (l : List ℕ). a ++ l) q.parts ∙ sym (append_assoc a q.front q.rest);
+    replays = ReplaysAll-append f mid last a q.front s t p q.replays;
+    less = q.less;
   }
 
-  pub ReplaysFront-append : (f mid : F) (a b s t : List ℕ)
-      → ReplaysAll g size f a s mid → ReplaysFront g size mid b t → ReplaysFront g size f (a ++ b) (s ++ t)
-  ReplaysFront-append f mid a b s t p q = record {
+  pub ReplaysSome-append : (f mid : F) (a b s t : List ℕ)
+      → ReplaysAll g size f a s mid → ReplaysSome g size mid b t → ReplaysSome g size f (a ++ b) (s ++ t)
+  ReplaysSome-append f mid a b s t p q = record {
     front = a ++ q.front;
     rest = q.rest;
     last = q.last;
+    end = q.end;
     parts = ap (λ (l : List ℕ). a ++ l) q.parts ∙ sym (append_assoc a q.front q.rest);
     replays = ReplaysAll-append f mid q.last a q.front s t p q.replays;
-    stops = q.stops;
+    none = q.none;
   }
+
+-- as many bytes as whole lines have
+pub whole-even : (l size : ℕ) → 0 < size → (l - l % size) % size ≡ 0
+whole-even l size some =
+    let e : l - l % size ≡ l / size * size = omega (arith, div-add-mod l size) in
+    rw e (mul-mod_left (l / size) size)

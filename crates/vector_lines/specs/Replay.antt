@@ -2,7 +2,7 @@
 use Rattle.std.specs.Prelude.{◌≡◌, ℕ, ◌<◌, ◌⊎◌, leb, List, [], ◌∷◌, ◌++◌, Option, None, Some, length, take}
 use Rattle.std.specs.Borrow.{Bor, MutBor}
 use Rattle.std.specs.Fn.{Mut, Called}
-use Rattle.std.specs.Io.KnownBytes.{Appends, Consumes}
+use Rattle.std.specs.Io.KnownBytes.{Appends, Consumes, IsAtEnd}
 use Rattle.std.specs.List.{concat}
 use Rattle.word.specs.Option.{only}
 
@@ -34,15 +34,28 @@ module _ {F : Type 0} (g : Mut F (Bor (List ℕ) × (MutBor (List ℕ) × Unit {
     pub parts : bytes ≡ concat lines
     pub answers : AnswersAll size f lines text last
 
-  -- the same of the bytes before some rest, which is less than a line, or begins with a line that has no answer
-  pub record ReplaysFront (size : ℕ) (f : F) (bytes text : List ℕ) : Type 0 where
+  -- the same of the bytes before some rest, which is less than a line
+  pub record ReplaysWhole (size : ℕ) (f : F) (bytes text : List ℕ) (last : F) : Type 0 where
+    pub front : List ℕ
+    pub rest : List ℕ
+    pub parts : bytes ≡ front ++ rest
+    pub replays : ReplaysAll size f front text last
+    pub less : length rest < size
+
+  -- the same of the bytes before some rest, which begins with a line that has no answer
+  pub record ReplaysSome (size : ℕ) (f : F) (bytes text : List ℕ) : Type 0 where
     pub front : List ℕ
     pub rest : List ℕ
     pub last : F
+    pub end : F
     pub parts : bytes ≡ front ++ rest
     pub replays : ReplaysAll size f front text last
-    pub stops : (length rest < size) ⊎ ((end : F) × Answers last (take size rest) None end)
+    pub none : Answers last (take size rest) None end
 
-  -- what a reader gave was replayed so, and the text is what a writer got
-  abbrev pub Replays : ℕ → F → Option (List ℕ) → Option (List ℕ) → Option (List ℕ) → Option (List ℕ) → Type 0
-  Replays size f unread left held grown = (bytes text : List ℕ) × Consumes unread left bytes × Appends held grown text × ReplaysFront size f bytes text
+  -- what a reader gave was replayed so, all that it had or up to a line that has no answer, and the text is what a writer got
+  pub record Replays (size : ℕ) (f : F) (unread left held grown : Option (List ℕ)) : Type 0 where
+    pub bytes : List ℕ
+    pub text : List ℕ
+    pub read : Consumes unread left bytes
+    pub written : Appends held grown text
+    pub stops : (((last : F) × ReplaysWhole size f bytes text last) × IsAtEnd left) ⊎ ReplaysSome size f bytes text

@@ -1,15 +1,15 @@
 // The text of test vectors: hex digits that are read, and words that are put into a lent slice in hex digits; and the replay of vectors.
 #![tactic(auto)]
 
-ghost use Rattle.std.specs.Io.KnownBytes.{Consumes};
+ghost use Rattle.std.specs.Io.KnownBytes.{Consumes, IsAtEnd};
 ghost use Rattle.std.specs.Prelude.{[], ◌∷◌, ◌++◌, ◌≡◌, ◌<◌, ◌≤◌, IfSome, IsFalse, IsTrue, OnOk, eqb, leb, ltb, length, take};
 ghost use Rattle.word.specs.Value.{val, number_of};
 ghost use Rattle.word.specs.Option.{only, provided};
 ghost use Rattle.text.specs.Text.{placed, fitting, placed_if};
-ghost use Rattle.vector_lines.specs.Replay.{ReplaysAll, ReplaysFront, Replays};
+ghost use Rattle.vector_lines.specs.Replay.{ReplaysWhole, ReplaysSome, Replays};
 ghost use Rattle.vector_lines.specs.Text.{digit_value, spelled, hex_digits};
 
-use std::io::{Read, Result, Write};
+use std::io::{ErrorKind, Read, Result, Write};
 use text::put_text_in_room;
 use word::Word;
 
@@ -85,21 +85,23 @@ pub fn put_word(w: Word, out: &mut [u8]) -> usize
     }
 }
 
-// Fills a block with what a reader gives, and answers how many bytes came: they are the next ones of the reader, in their order. There are fewer
-// than the block holds at the reader's end, or where a read fails. The rest of the block may be anything.
-pub fn read_full<R: Read>(reader: &mut R, block: &mut [u8]) -> usize
-    ensures in_bounds { result ≤ length block.old }
-    ensures bytes { Consumes (R.remaining reader.old) (R.remaining reader.new) (take result block.new) }
+// Fills a block with what a reader gives, and answers how many bytes came, and whether a read failed: the bytes are the next ones of the reader,
+// in their order. Where no read failed there are fewer than the block holds at the reader's end alone. The rest of the block may be anything.
+pub fn read_full<R: Read>(reader: &mut R, block: &mut [u8]) -> (usize, Result<()>)
+    ensures in_bounds { result.0 ≤ length block.old }
+    ensures bytes { Consumes (R.remaining reader.old) (R.remaining reader.new) (take result.0 block.new) }
+    ensures end { OnOk result.1 (result.0 < length block.old → IsAtEnd (R.remaining reader.new)) }
 {
     // Each read decides how far it goes, so that no `for` fits.
     let mut at = 0;
     while at < block.len() {
         match reader.read(&mut block[at..]) {
-            Ok(0) | Err(_) => return at,
+            Ok(0) => return (at, Ok(())),
             Ok(got) => at += got,
+            Err(error) => return (at, Err(error)),
         }
     }
-    at
+    (at, Ok(()))
 }
 
 // Puts the digits of a word and a line end at the start of out, and answers how many bytes they have.
@@ -112,11 +114,11 @@ pub fn put_word_line(w: Word, out: &mut [u8]) -> usize
     end + put_text_in_room(b"\n", &mut out[end..])
 }
 
-// How far the lines of a block were answered: how many bytes the answers have, and whether that is all of the block.
+// How far the lines of a block were answered: how many bytes the answers have, and whether each line has one.
 #[derive(Clone, Copy)]
 struct Answered {
     len: usize,
-    is_whole: bool,
+    is_each: bool,
 }
 
 // Puts the answers to the lines of block, each of `size` bytes, at the start of out, up to one that has no answer.
@@ -129,9 +131,9 @@ fn answer_lines<F: FnMut(&[u8], &mut [u8]) -> Option<usize>>(
     requires some_byte { 0 < size }
     requires callable { F.IsAlwaysCallable answer.old }
     ensures in_bounds { result.len ≤ length out.new }
-    ensures callable { IsTrue result.is_whole → F.IsAlwaysCallable answer.new }
-    ensures all { IsTrue result.is_whole → ReplaysAll F.FnMut size answer.old block.now (take result.len out.new) answer.new }
-    ensures front { IsFalse result.is_whole → ReplaysFront F.FnMut size answer.old block.now (take result.len out.new) }
+    ensures callable { IsTrue result.is_each → F.IsAlwaysCallable answer.new }
+    ensures each { IsTrue result.is_each → ReplaysWhole F.FnMut size answer.old block.now (take result.len out.new) answer.new }
+    ensures some { IsFalse result.is_each → ReplaysSome F.FnMut size answer.old block.now (take result.len out.new) }
 {
     let mut len = 0;
     for line in block.chunks_exact(size) {
@@ -140,20 +142,17 @@ fn answer_lines<F: FnMut(&[u8], &mut [u8]) -> Option<usize>>(
             _ => {
                 return Answered {
                     len,
-                    is_whole: false,
+                    is_each: false,
                 };
             }
         }
     }
-    Answered {
-        len,
-        is_whole: block.len() % size == 0,
-    }
+    Answered { len, is_each: true }
 }
 
 // Replays test vectors: reads lines of `size` bytes, as many at a time as block holds, and writes their answers, which out has room for. It stops
-// at a line that has no answer, where the reader ends or a read fails, and where a write fails. `answer` puts a line's answer at the start of a
-// slice, and answers where it ends. A line's size is no const parameter, which a bound `FnMut` cannot name: so `0 < size` is a clause.
+// at a line that has no answer and at the reader's end, and with an error where a read or a write fails. `answer` puts a line's answer at the
+// start of a slice, and answers where it ends. A line's size is no const parameter, which a bound `FnMut` cannot name: so `0 < size` is a clause.
 pub fn replay<R: Read, W: Write, F: FnMut(&[u8], &mut [u8]) -> Option<usize>>(
     reader: &mut R,
     writer: &mut W,
@@ -166,14 +165,17 @@ pub fn replay<R: Read, W: Write, F: FnMut(&[u8], &mut [u8]) -> Option<usize>>(
     requires callable { F.IsAlwaysCallable answer }
     ensures { OnOk result (Replays F.FnMut size answer (R.remaining reader.old) (R.remaining reader.new) (W.contents writer.old) (W.contents writer.new)) }
 {
+    let whole = block.len() - block.len() % size;
+    let block = &mut block[..whole];
     // A proved loop has to end: no run takes so many turns.
     for _ in 0..u64::MAX {
-        let n = read_full(reader, block);
+        let (n, read) = read_full(reader, block);
         let answered = answer_lines(&block[..n], size, out, &mut answer);
         writer.write_all(&out[..answered.len])?;
-        if !answered.is_whole || n < block.len() {
+        read?;
+        if !answered.is_each || n < whole {
             return Ok(());
         }
     }
-    Ok(())
+    Err(ErrorKind::TimedOut.into())
 }

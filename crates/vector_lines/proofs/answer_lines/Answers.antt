@@ -1,12 +1,12 @@
 -- `vector_lines::answer_lines` meets its contract: a line's answer comes behind those of the lines before it. Assumes nothing.
-use Rattle.std.proofs.Common.{◌≡◌, ◌-◌, ◌≤◌, ◌<◌, ◌++◌, ap, sym, refl, subst, ◌∙◌, append_assoc, Some, arith, List, ℕ, length, take, drop, length-take-le, length-drop, inr}
+use Rattle.std.proofs.Common.{◌≡◌, ◌-◌, ◌≤◌, ◌<◌, ◌++◌, ap, sym, refl, subst, ◌∙◌, append_assoc, Some, arith, List, ℕ, length, take, drop, length-take-le, length-drop}
 use Rattle.std.proofs.lemmas.Bool.{le-leb, lt-leb}
 use borrow.Rule.Slice.PartMut.{same_len_mid, take_put}
 use denote.Param.Always.{mut_next}
 use lib.Seq.{take_at}
 use Rattle.std.specs.Slice.Iter.{chunks_exact_rest}
 use Rattle.vector_lines.specs.Replay.{Answers, ReplaysAll}
-use Rattle.vector_lines.proofs.Replaying.{front, ReplaysAll-append, ReplaysAll-line, ReplaysAll-whole}
+use Rattle.vector_lines.proofs.Replaying.{front, ReplaysAll-append, ReplaysAll-line}
 use Rattle.vector_lines.proofs.answer_lines.Goals as goal
 
 pub loop-line-preserved : goal.loop-line-preserved
@@ -38,8 +38,8 @@ loop-line-preserved g c =
       );
     }
 
-pub returns-in_default-clause-front : goal.returns-in_default-clause-front
-returns-in_default-clause-front g c _ =
+pub returns-in_default-clause-some : goal.returns-in_default-clause-some
+returns-in_default-clause-some g c _ =
     let l = c.loop-line in
     let n = c.in-Some-answer.n in
     let left = c.answer.new.arg3 in
@@ -58,15 +58,6 @@ returns-in_default-clause-front g c _ =
       last = l.answer;
       parts = before.1;
       replays = subst (λ (m : List ℕ). ReplaysAll g.F.FnMut c.args.size c.args.answer.now before.0 m l.answer) (sym (take_put l.len room l.out left l.invariant.within)) before.2;
-      stops = inr (
-        c.answer.new.self,
-        record { shown = _; lent = _; left = _; end = Some n; shows = line; called = c.in-Some-answer.ensures; leaves = rw (lt-leb n (length left) over) refl },
-      );
+      end = c.answer.new.self;
+      none = record { shown = _; lent = _; left = _; end = Some n; shows = line; called = c.in-Some-answer.ensures; leaves = rw (lt-leb n (length left) over) refl };
     }
-
-pub returns-clause-all : goal.returns-clause-all
-returns-clause-all g c even =
-    let l = c.loop-line in
-    let step = c.in-None.ensures.steps in
-    ReplaysAll-whole g.F.FnMut c.args.size _ _ c.args.block.now l.invariant.front.0 (chunks_exact_rest l.line-iterator) _
-    l.invariant.front.2 l.invariant.front.1 (rw l.invariant.size at step.1.0) even
