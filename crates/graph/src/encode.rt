@@ -69,13 +69,13 @@ fn fields_of(operation: Operation) -> Fields
             value,
             offset,
             width,
-        } => (SLICE, value.0, offset as u64, width as u64),
+        } => (SLICE, value.0, u64::from(offset), u64::from(width)),
         Operation::Concat {
             high,
             low,
             low_width,
-        } => (CONCAT, high.0, low.0, low_width as u64),
-        Operation::Unary(unary, id) => (unary.code(), id.0, 0, unary.width() as u64),
+        } => (CONCAT, high.0, low.0, u64::from(low_width)),
+        Operation::Unary(unary, id) => (unary.code(), id.0, 0, u64::from(unary.width())),
         Operation::Binary(binary, left, right) => (binary.code(), left.0, right.0, 0),
     };
     Fields { code, x, y, z }
@@ -90,7 +90,7 @@ pub fn words_of(ty: ScalarType, range: Option<Range>, operation: Operation) -> [
     let Fields { code, x, y, z } = fields_of(operation);
     [
         type_code(ty),
-        type_width(ty) as u64,
+        u64::from(type_width(ty)),
         flag,
         min.lo,
         min.hi,

@@ -12,7 +12,7 @@ use crate::layout::{
 };
 use crate::walk::walk;
 use crate::{EffectId, InputId, Node, NodeId, Operation};
-use evaluate::code::{BINARY, BITS, BOOL, binary_of, unary_of};
+use evaluate::code::{self, BINARY, binary_of, unary_of};
 use range::{Range, ScalarType};
 use word::Word;
 
@@ -26,11 +26,7 @@ fn narrow(word: u64) -> u16
 pub(crate) fn type_of(code: u64, width: u64) -> ScalarType
     ensures { result ≡ type_of code width }
 {
-    match code {
-        BOOL => ScalarType::Bool,
-        BITS => ScalarType::Bits(narrow(width)),
-        _ => ScalarType::Integer,
-    }
+    code::type_of(code, narrow(width)).unwrap_or(ScalarType::Integer)
 }
 
 // The range of a flag and the patterns of its ends.

@@ -119,12 +119,7 @@ fn is_graph_region(g: &Region) -> bool
 pub fn as_graph(g: &[u64]) -> Option<&Region>
     ensures { MatchOption result (is_graph g.now ≡ false) (λ region. (is_graph g.now ≡ true) × (region.now ≡ g.now)) }
 {
-    let region = g.as_array()?;
-    if is_graph_region(region) {
-        Some(region)
-    } else {
-        None
-    }
+    g.as_array().filter(|region| is_graph_region(region))
 }
 
 pub fn is_graph(g: &[u64]) -> bool

@@ -13,7 +13,7 @@ use word::Word;
 #[derive(Clone, Copy)]
 pub enum Plan {
     Give(NodeId),
-    // The Rust's None.
+    // The original's None, which ends a builder. No `Option<Plan>` stands for it: that one asks the next rule.
     None,
     Constant(Word, ScalarType),
     Add(Option<Range>, Operation, ScalarType),

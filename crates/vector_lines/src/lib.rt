@@ -20,8 +20,8 @@ fn digit_value(b: u8) -> Option<u64>
     ensures bound { IfSome result (λ d. d < 16) }
 {
     match b {
-        b'0'..=b'9' => Some((b - b'0') as u64),
-        b'a'..=b'f' => Some((b - b'a') as u64 + 10),
+        b'0'..=b'9' => Some(u64::from(b - b'0')),
+        b'a'..=b'f' => Some(u64::from(b - b'a') + 10),
         _ => None,
     }
 }
