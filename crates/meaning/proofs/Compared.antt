@@ -17,7 +17,7 @@ use Rattle.word.specs.Option.{provided, mapped, from_bool}
 use Rattle.word.proofs.Integer.{signed_low, signed_high, signed_mag, residue-signed, lt-or-ge}
 use Rattle.word.proofs.Counts.{power_of_two}
 use Rattle.word.proofs.Orders.{le-not_less, same_is}
-use Rattle.range.specs.Interval.{Interval, ◌∈◌, same_interval}
+use Rattle.range.specs.Interval.{Interval, ◌∈◌, same_interval, nonnegative}
 use Rattle.range.specs.declared.ScalarType.{ScalarType}
 use Rattle.range.specs.declared.ScalarType.TheVariants as ty
 use Rattle.range.proofs.Order.{up, down, orders, less_true}
@@ -50,7 +50,11 @@ same_parts (negsuc m) (pos n) e = absurd (omega arith)
 same_parts (negsuc m) (negsuc n) e = ap negsuc (omega arith)
 
 is_less : (x y : ℤ) → up x + down y < up y + down x → lt_z x y ≡ true
-is_less x y h = search (arith, lt_z, orders, less_false)
+is_less x y h = go (lt_z x y) refl
+  where
+    go : (t : Bool) → lt_z x y ≡ t → t ≡ true
+    go true e = refl
+    go false e = absurd (omega (orders, less_false x y e))
 
 not_less : (x y : ℤ) → y ≤ℤ x → lt_z x y ≡ false
 not_less x y h = go (lt_z x y) refl
@@ -116,7 +120,13 @@ read ty.Integer x a f e = refl
 
 -- an integer that isn't negative is its pattern
 pub natural : (w x : ℕ) → x < 2 ^ w → pos 0 ≤ℤ signed w x → signed w x ≡ pos x
-natural w x l h = search (arith, signed_low, signed_high, lt-or-ge, orders)
+natural w x l h =
+    ⊎_elim (λ (q : x < 2 ^ (w - 1)). signed_low w x q)
+    (λ (q : 2 ^ (w - 1) ≤ x). absurd (below (2 ^ w - suc x) (subst (λ (z : ℤ). pos 0 ≤ℤ z) (signed_high w x q l) h)))
+    (lt-or-ge x (2 ^ (w - 1)))
+  where
+    below : (n : ℕ) → pos 0 ≤ℤ negsuc n → ⊥
+    below n h = omega orders
 
 module _ (x y : ℕ) (a b : Interval) (l : x < 2 ^ 128) (m : y < 2 ^ 128) (f : (signed 128 x) ∈ a) (g : (signed 128 y) ∈ b) where
   equal_value : (truth : Bool) → equal_ranges a b ≡ Some truth → eqb x y ≡ truth
@@ -132,7 +142,14 @@ module _ (x y : ℕ) (a b : Interval) (l : x < 2 ^ 128) (m : y < 2 ^ 128) (f : (
   equal_mapped (Some t) truth d e = ap not (equal_value t d) ∙ cc
 
   pub unsigned : unsigned_too a b ≡ true → (signed 128 x ≡ pos x) × (signed 128 y ≡ pos y)
-  unsigned e = search (arith, tests, at_most_lem, natural, orders)
+  unsigned e =
+      let t = tests (nonnegative a) (nonnegative b) e in
+      let p = at_most_lem (pos 0) a.low t.0 in
+      let q = at_most_lem (pos 0) b.low t.1 in
+      (natural 128 x l (over (signed 128 x) a.low p f.above), natural 128 y m (over (signed 128 y) b.low q g.above))
+    where
+      over : (z u : ℤ) → pos 0 ≤ℤ u → u ≤ℤ z → pos 0 ≤ℤ z
+      over z u h k = omega orders
 
   less_unsigned : (t truth : Bool) → unsigned_too a b ≡ t → provided t (less_ranges a b) ≡ Some truth → ltb x y ≡ truth
   less_unsigned true truth d e =

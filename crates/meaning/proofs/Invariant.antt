@@ -212,7 +212,12 @@ module _ {ρ : World} {g h : List ℕ} (i : Inv ρ g) (e : Extends g h) (n : ℕ
   old_ranged sure v q = rw (ext_type e n l, ext_range e n l) (i.ranged n l sure v (sym (ext_value ρ e n l) ∙ q))
 
 pub leads_ext : (ρ : World) {g h : List ℕ} → Extends g h → (n m : ℕ) → n < count_of g → Leads ρ g n m → Leads ρ h n m
-leads_ext ρ e n m l a = search (arith, ext_here, ext_type, ext_value, ext_range)
+leads_ext ρ e n m l a = record {
+  here = ext_here e m a.here;
+  type = ext_type e m a.here ∙ a.type ∙ sym (ext_type e n l);
+  means = ext_value ρ e m a.here ∙ a.means ∙ sym (ext_value ρ e n l);
+  inside = rw (ext_range e m a.here, ext_range e n l) a.inside;
+}
 
 -- ---- the end of a chain of aliases
 
@@ -220,7 +225,12 @@ leads_refl : {ρ : World} {g : List ℕ} (n : ℕ) → n < count_of g → Leads 
 leads_refl {ρ} {g} n l = record { here = l; type = refl; means = refl; inside = inside_refl (range_at g n) }
 
 leads_trans : {ρ : World} {g : List ℕ} (n m k : ℕ) → Leads ρ g n m → Leads ρ g m k → Leads ρ g n k
-leads_trans {ρ} {g} n m k a b = search (arith, inside_trans)
+leads_trans {ρ} {g} n m k a b = record {
+  here = b.here;
+  type = b.type ∙ a.type;
+  means = b.means ∙ a.means;
+  inside = inside_trans (range_at g k) (range_at g m) (range_at g n) b.inside a.inside;
+}
 
 module _ (ρ : World) (g : List ℕ) (i : Inv ρ g) where
   follow_leads : (k n : ℕ) → n < count_of g → Leads ρ g n (follow g k n)

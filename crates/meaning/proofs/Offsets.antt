@@ -1,6 +1,6 @@
 -- A constant moved to the right, sums of sums by constants, and sums compared with constants: these plans claim what is asked of them. Assumes nothing.
 use mathlib.Core.Path.{◌≡◌, refl, sym, ap, ◌∙◌, subst}
-use mathlib.Core.Bool.{Bool, true, cond, not, false≢true, ◌&&◌}
+use mathlib.Core.Bool.{Bool, true, false, cond, not, false≢true, ◌&&◌}
 use mathlib.Core.List.{List}
 use Rattle.std.specs.Prelude.{Option, None, Some}
 use Prim.Native.Nat.{ℕ, ◌+◌, ◌-◌, ◌%◌, ◌^◌, ◌≤◌, ◌<◌}
@@ -9,7 +9,7 @@ use native.Mathlib.Omega.{arith}
 use borrow.Author.Tests.{eq-eqb, ne_eqb, eqb-true, eqb-false}
 use lib.Bits.{and_comm, or_comm, xor_comm}
 use lib.Dec.{eqb, leb}
-use lib.IntN.{ℤ, pos, neg_ℤ, ◌+ℤ◌, ◌-ℤ◌, +ℤ_assoc, neg_ℤ-+ℤ}
+use lib.IntN.{ℤ, pos, neg_ℤ, ◌+ℤ◌, ◌-ℤ◌, +ℤ_comm, *ℤ_comm, +ℤ_assoc, neg_ℤ-+ℤ}
 use lib.Pow.{pow_pos}
 use Rattle.word.specs.Value.{signed, residue, fitted, is_power_of_two}
 use Rattle.word.specs.Option.{only, mapped, from_bool}
@@ -78,11 +78,22 @@ module _ (t : ScalarType) (a b : ℕ) where
 
   value_swap : (o : Binary) → is_any commutative o ≡ true → ValueSwap o
   unfolding binary_value
-  value_swap = search (arith, of_any, add_comm, mul_comm, and_comm, or_comm, xor_comm, eqb_sym)
+  value_swap =
+      of_any ValueSwap commutative
+      (λ z. mapped (reduced t) (by_type t (mapped (residue 128) (fitted (+ℤ_comm (signed 128 b) (signed 128 a) z))) (Some (add_comm b a z % 2 ^ 128))))
+      (λ z. mapped (reduced t) (by_type t (mapped (residue 128) (fitted (*ℤ_comm (signed 128 b) (signed 128 a) z))) (Some (mul_comm b a z % 2 ^ 128))))
+      (λ z. Some (reduced t (and_comm b a z))) (λ z. Some (reduced t (or_comm b a z))) (λ z. Some (reduced t (xor_comm b a z)))
+      (λ z. Some (reduced t (from_bool (eqb_sym b a z)))) (λ z. Some (reduced t (from_bool (not (eqb_sym b a z)))))
 
 module _ {ρ : World} {g : List ℕ} (i : Inv ρ g) (t : ScalarType) (o : Binary) (l r : ℕ) (k : Callable g (binary t o l r)) where
   pub swapped_claim : is_any commutative o ≡ true → Claim ρ g t (binary_means t o (value ρ g l) (value ρ g r)) (plan.binary t o r l)
-  swapped_claim m = search (arith, typed_swap, operands, value_swap)
+  swapped_claim m = (
+    (k.0, k.2, k.1, typed_swap (type_at g l) (type_at g r) t o m k.3),
+    refl,
+    λ sure x e.
+        let s = operands ρ g t o l r x e in
+        (λ z. binary_means t o (s.right z) (s.left z)) ∙ ap (λ (q : Option ℕ). and_then q (of_type t)) (value_swap t s.x s.y o m) ∙ s.means,
+  )
 
 -- ---- sums of sums
 
@@ -103,7 +114,11 @@ module _ (f : ℤ → ℤ → ℤ) (G : ℕ → ℕ → ℕ → ℕ) (law : Resi
 
   merged_integer : checked (f (signed 128 x) (signed 128 c)) ≡ Some v → checked (signed 128 c +ℤ signed 128 d) ≡ Some k
       → checked (f (signed 128 v) (signed 128 d)) ≡ checked (f (signed 128 x) (signed 128 k))
-  merged_integer ev ek = search (arith, checked_is, checked)
+  merged_integer ev ek =
+      let pv = (checked_is (f (signed 128 x) (signed 128 c)) v ev).1 in
+      let pk = (checked_is (signed 128 c +ℤ signed 128 d) k ek).1 in
+      ap checked
+      ((λ z. f (pv z) (signed 128 d)) ∙ assoc (signed 128 x) (signed 128 c) (signed 128 d) ∙ (λ z. f (signed 128 x) (sym pk z)))
 
   merges : (t : ScalarType) → is_number t ≡ true → type_width t ≤ 128 → x < 2 ^ 128 → c < 2 ^ 128 → d < 2 ^ 128 → v < size t → k < size t
       → arithmetics f G t x c ≡ Some v → arithmetics ◌+ℤ◌ sum t c d ≡ Some k → arithmetics f G t v d ≡ arithmetics f G t x k
@@ -232,7 +247,11 @@ module _ {ρ : World} {g : List ℕ} (i : Inv ρ g) (t : ScalarType) (l r c : �
 -- ---- sums compared with constants
 
 eqb_alike : (a b x y : ℕ) → (a ≡ b → x ≡ y) → (x ≡ y → a ≡ b) → eqb a b ≡ eqb x y
-eqb_alike a b x y f h = search (arith, eq-eqb, eqb-true, ne_eqb, eqb-false)
+eqb_alike a b x y f h = go (eqb a b) refl
+  where
+    go : (t : Bool) → eqb a b ≡ t → t ≡ eqb x y
+    go true e = sym (eq-eqb x y (f (eqb-true a b e)))
+    go false e = sym (ne_eqb x y (λ q. eqb-false a b e (h q)))
 
 -- x + c and x - c compared with b, modulo 2 ^ w
 module _ (w x c b : ℕ) (wide : w ≤ 128) (lx : x < 2 ^ w) (lc : c < 2 ^ w) (lb : b < 2 ^ w) where
@@ -246,7 +265,11 @@ module _ (w x c b : ℕ) (wide : w ≤ 128) (lx : x < 2 ^ w) (lc : c < 2 ^ w) (l
       ∙ (λ z. eqb x (sym (sub_low w b c wide lb lc) z))
 
   sub-compared : eqb (u128.wrapping_sub x c % 2 ^ w) b ≡ eqb x (u128.wrapping_add b c % 2 ^ w)
-  sub-compared = search (arith, sub_low, eqb_alike, shift_from, shift_to, sum_low)
+  sub-compared =
+      (λ z. eqb (sub_low w x c wide lx lc z) b)
+      ∙ eqb_alike ((x + (2 ^ w - c)) % 2 ^ w) b x ((b + c) % 2 ^ w) (λ e. sym (shift_from b c x (2 ^ w) lb lc lx (sym e)))
+      (λ e. sym (shift_to b c x (2 ^ w) lb lc lx (sym e)))
+      ∙ (λ z. eqb x (sym (sum_low b) z))
 
 -- both operands are of one type
 equality_typed : (a b t : ScalarType) (o : Binary) → is_any equalities o ≡ true → stored_typed o a b t ≡ true → a ≡ b

@@ -214,7 +214,11 @@ retain_alike g keep m n e = rw e (both_alike (is_graph g) (is_keep_list g keep n
 -- and its mapping keeps its length
 retain-length : (g keep m : List ℕ) → length (retain_call g keep m).mapping ≡ length m
 unfolding retain_call retain_in_graph
-retain-length g keep m = search (arith, by_test, ids-length, keep_list_facts)
+retain-length g keep m =
+    by_test (λ (r : Retention). length r.mapping ≡ length m) (is_graph g)
+    (λ e. by_test (λ (r : Retention). length r.mapping ≡ length m) (is_keep_list g keep m)
+    (λ c. ids-length keep (count_of g) ∙ sym (keep_list_facts g keep m c).ids) (λ c. refl))
+    (λ e. refl)
 
 module _ (g w m : List ℕ) (both : is_marked g w ≡ true) (fits : LIMIT ≤ length m) where
   is_it : is_graph g ≡ true

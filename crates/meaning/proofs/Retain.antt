@@ -280,7 +280,11 @@ module _ (ρ : World) {g keep mapping : List ℕ} (i : Inv ρ g) (d : KeepList g
   -- nodes that are equal were equal
   same_node : (n m : ℕ) → n < count_of g → m < count_of g → is_kept keep n ≡ true → is_kept keep m ≡ true
       → node_at (retained g keep) (kept_below keep n) ≡ node_at (retained g keep) (kept_below keep m) → node_at g n ≡ node_at g m
-  same_node n m ln lm kn km e = search (arith, node_at_lem, operation_back, back)
+  same_node n m ln lm kn km e =
+      let q = sym (node_at_lem n ln kn) ∙ e ∙ node_at_lem m lm km in
+      let o : operation_at g n ≡ operation_at g m =
+      sym (operation_back n ln kn) ∙ ap (λ (p : Parts). renamed back p.operation) q ∙ operation_back m lm km in
+      λ k. record { type = (q k).type; range = (q k).range; operation = o k }
 
   keys_left : Keys (retained g keep)
   keys_left n m a b e =

@@ -1,8 +1,8 @@
 -- What binary decides of ranges, of one node twice and of a constant on the right claims what is asked of it. Assumes nothing.
 use mathlib.Core.Path.{◌≡◌, refl, sym, ap, ◌∙◌, subst}
-use mathlib.Core.Bool.{Bool, true, cond, false≢true, ◌&&◌}
+use mathlib.Core.Bool.{Bool, true, false, cond, false≢true, ◌&&◌}
 use mathlib.Core.List.{List}
-use mathlib.Core.Logic.{◌⊎◌, ⊎_elim}
+use mathlib.Core.Logic.{◌⊎◌, inl, inr, ⊎_elim}
 use Rattle.std.specs.Prelude.{Option, None, Some}
 use Prim.Native.Nat.{ℕ, ◌-◌, ◌^◌, ◌≤◌, ◌<◌}
 use native.Mathlib.Nat.{mod-lt, lt_of_lt_of_le}
@@ -248,7 +248,13 @@ module _ {ρ : World} {g : List ℕ} (i : Inv ρ g) (t : ScalarType) (o : Binary
   -- And or Or with all ones
   ones_facts : {A : Type 0} (u v p : A) → cond (same_binary o bi.And) (Some u) (only (same_binary o bi.Or) v) ≡ Some p
       → ((o ≡ bi.And) × (u ≡ p)) ⊎ ((o ≡ bi.Or) × (v ≡ p))
-  ones_facts {A} u v p = search (arith, binary_is, some_is, none-some)
+  ones_facts {A} u v p = go (same_binary o bi.And) refl (same_binary o bi.Or) refl
+    where
+      go : (a : Bool) → same_binary o bi.And ≡ a → (b : Bool) → same_binary o bi.Or ≡ b → cond a (Some u) (only b v) ≡ Some p
+          → ((o ≡ bi.And) × (u ≡ p)) ⊎ ((o ≡ bi.Or) × (v ≡ p))
+      go true q b d e = inl (binary_is o bi.And q, some_is e)
+      go false q true d e = inr (binary_is o bi.Or d, some_is e)
+      go false q false d e = absurd (none-some e)
 
   module _ (c : ℕ) (lit : literal g r ≡ Some c) where
     -- what the operator gives of a value and the constant
@@ -354,7 +360,11 @@ module _ {ρ : World} {g : List ℕ} (i : Inv ρ g) (w : ℕ) (o : Binary) (l r 
 
   -- the types of both
   pair_types : Merges o → Merges c.op → (type_at g l ≡ ty.Bits w) × (type_at g r ≡ ty.Bits w) × (type_at g c.base ≡ ty.Bits w)
-  pair_types m n = search (arith, bit_types, same_types_lem, by_constant-typed)
+  pair_types m n =
+      let s = bit_types i (ty.Bits w) o l r k m in
+      let q = same_types_lem (type_at g c.base) (type_at g f.constant) (type_at g l)
+      (sym (n.0 (type_at g c.base) (type_at g f.constant) (type_at g l)) ∙ by_constant-typed i l k.1 c f) in
+      (s.0, s.1, q.0 ∙ s.0)
 
   merged_claim : c.op ≡ o → Merges o → Asked i (ty.Bits w) o l r k (merged_plan (ty.Bits w) o c.base (binary_value o (ty.Bits w) c.value b))
   merged_claim q m = go (binary_value o (ty.Bits w) c.value b) refl

@@ -1,9 +1,10 @@
 -- unsigned_range is sound: value - low is at most high - low, modulo 2 ^ w, just if the value lies between both. Assumes nothing.
-use mathlib.Core.Path.{◌≡◌, refl, ap, ◌∙◌, subst}
+use mathlib.Core.Path.{◌≡◌, refl, sym, ap, ◌∙◌, subst}
 use mathlib.Core.Bool.{Bool, true, ◌&&◌}
 use mathlib.Core.List.{List}
+use mathlib.Core.Logic.{⊎_elim}
 use Rattle.std.specs.Prelude.{Some}
-use Prim.Native.Nat.{ℕ, ◌+◌, ◌-◌, ◌%◌, ◌^◌, ◌≤◌, ◌<◌}
+use Prim.Native.Nat.{ℕ, ◌+◌, ◌-◌, ◌%◌, ◌^◌, ◌≤◌, ◌<◌, min}
 use native.Mathlib.Nat.{mod-eq_of_lt, min-eq_left}
 use native.Mathlib.Omega.{arith}
 use borrow.Author.Tests.{leb-true, le-leb, lt-leb, eq-eqb}
@@ -19,10 +20,11 @@ use Rattle.evaluate.specs.U128 as u128
 use Rattle.evaluate.specs.declared.Binary.TheVariants as bi
 use Rattle.graph.specs.Layout.{count_of}
 use Rattle.graph.specs.Node.{type_at}
+use Rattle.fold.specs.Shape.{mask}
 use Rattle.build.specs.Build.{call, binary, by_constant, range_prog, is_testable, range_step, unsigned_range, build}
 use Rattle.request.specs.Request as request
 use Rattle.native.specs.Perform.{UNITS}
-use Rattle.bit_laws.proofs.Sums.{under, over, wrap, sub_exact}
+use Rattle.bit_laws.proofs.Sums.{Wrap, under, over, wrap, sub_exact}
 use Rattle.meaning.specs.Value.{size, of_type, binary_means}
 use Rattle.meaning.proofs.Worlds.{World, operand, value}
 use Rattle.meaning.specs.Book.{request_means}
@@ -40,7 +42,23 @@ use Rattle.meaning.proofs.Views.{value_small}
 module _ (S a low high : ℕ) (la : a < S) (ordered : low ≤ high) (lh : high < S) where
   -- the difference is at most the extent just if a lies between both
   between : leb ((a + (S - low)) % S) (high - low) ≡ leb low a && leb a high
-  between = search (arith, wrap, under, lt-leb, over, le-leb, lt-or-ge)
+  between = go (wrap (a + (S - low)) S (omega arith))
+    where
+      go : Wrap (a + (S - low)) S ((a + (S - low)) % S) → leb ((a + (S - low)) % S) (high - low) ≡ leb low a && leb a high
+      go (under p q) =
+          let n : a < low = omega arith in
+          let m : high - low < (a + (S - low)) % S = omega arith in
+          lt-leb ((a + (S - low)) % S) (high - low) m ∙ sym (rw (lt-leb low a n))
+      go (over p q) =
+          let n : low ≤ a = omega arith in
+          ⊎_elim
+          (λ (h : high < a).
+          let m : high - low < (a + (S - low)) % S = omega arith in
+          lt-leb ((a + (S - low)) % S) (high - low) m ∙ sym (rw (le-leb low a n, lt-leb a high h)))
+          (λ (h : a ≤ high).
+          let m : (a + (S - low)) % S ≤ high - low = omega arith in
+          le-leb ((a + (S - low)) % S) (high - low) m ∙ sym (rw (le-leb low a n, le-leb a high h)))
+          (lt-or-ge high a)
 
 -- ---- the program
 
@@ -52,7 +70,11 @@ module _ (ρ : World) (g : List ℕ) (i : Inv ρ g) (v low high w : ℕ) (l : v 
   ordered = leb-true low high (tests (leb low high) _ (tests (leb w 64) _ is).1).0
 
   high_small : high < 2 ^ w
-  high_small = search (arith, narrow, min-eq_left, leb-true, tests, lt_of_le_ones)
+  high_small =
+      let n = narrow in
+      let m : min w 128 ≡ w = min-eq_left (omega arith) in
+      let h : high ≤ mask w = leb-true high (mask w) (tests (leb low high) _ (tests (leb w 64) _ is).1).1 in
+      lt_of_le_ones w (subst (λ (k : ℕ). high ≤ 2 ^ k - 1) m h)
 
   low_small : low < 2 ^ w
   low_small = let a = ordered in let b = high_small in omega arith

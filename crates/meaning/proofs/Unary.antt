@@ -10,7 +10,7 @@ use borrow.Author.Tests.{ltb-true, leb-true, ne_eqb}
 use lib.Bits.{and_lt, or_lt, xor_lt}
 use lib.Count.{leading_le, trailing_le}
 use lib.Dec.{ltb, leb, eqb, lit<}
-use lib.IntN.{ℤ, pos, nat_abs, neg_ℤ}
+use lib.IntN.{ℤ, pos, nat_abs, neg_ℤ, ◌-ℤ◌}
 use lib.Pow.{pow_pos, pow_mono}
 use lib.Signed.{mag, le_z, lt_z, ◌≤ℤ◌, mag_shr}
 use Rattle.word.specs.Value.{residue, signed, fitted, quotient, min_z, max_z}
@@ -111,7 +111,18 @@ at_most_small z (Some m) f g = each_some Small _ (min_small z m f (g m refl))
 
 -- a range cut to a size, stretched to 0, goes no further than its ends and 0
 cut-ends : (a : Interval) (m : ℤ) → Ends a → Ends (cut a m)
-cut-ends a m e = search (arith, between_small, le-min, orders, extremes, min_small, pow_pos, max-le, max_small)
+cut-ends a m e = record {
+  low =
+      let x = max_z a.low (pos 1 -ℤ m) in
+      between_small (2 ^ 127) (min_z a.low (pos 0)) (pos 0) (min_z x (pos 0))
+      (le-min x (pos 0) _ (omega (orders, extremes a.low (pos 0), extremes a.low (pos 1 -ℤ m))) (extremes a.low (pos 0)).1)
+      (extremes x (pos 0)).1 (min_small a.low (pos 0) e.low (pow_pos 127)) (pow_pos 127);
+  high =
+      let x = min_z a.high (m -ℤ pos 1) in
+      between_small (2 ^ 127) (pos 0) (max_z a.high (pos 0)) (max_z x (pos 0)) (extremes x (pos 0)).3
+      (max-le x (pos 0) _ (omega (orders, extremes a.high (pos 0), extremes a.high (m -ℤ pos 1))) (extremes a.high (pos 0)).3)
+      (pow_pos 127) (max_small a.high (pos 0) e.high (pow_pos 127));
+}
 
 cut_to-ends : (a : Interval) (o p : Option ℤ) → Ends a → Each Ends (cut_to a o p)
 cut_to-ends a None p e = each_none Ends
@@ -160,7 +171,11 @@ module _ (a b : Interval) (f : Ends a) (g : Ends b) where
 
   shr-ends : Each Ends (shr_interval a b)
   unfolding shr_interval
-  shr-ends = search (arith, each_provided, each_some, lt_of_le_of_lt, mag_shr)
+  shr-ends =
+      each_provided Ends (nonnegative a && nonnegative b) (λ q. each_some Ends _ (record {
+        low = lt_of_le_of_lt (mag_shr a.low _) f.low;
+        high = lt_of_le_of_lt (mag_shr a.high _) f.high;
+      }))
 
   integer_ends : (o : Binary) → Each Ends (integer_rule o a b)
   integer_ends = each_integer Ends a b add-ends sub-ends mul-ends and-ends quot_ends rem_ends udiv_ends urem_ends
@@ -194,7 +209,14 @@ binary-ends o ty.Integer ra rb r f g e =
 
 extended-ends : (w : ℕ) → Each Ends (sign_extended w)
 unfolding sign_extended
-extended-ends w a e = search (arith, provided_is, ltb-true, tests, pow_pos, pow_mono, each_some, negative_below, lt_of_lt_of_le)
+extended-ends w a e =
+    let p = provided_is (ltb 0 w && ltb w 128) _ e in
+    let l : w < 128 = ltb-true w 128 (tests (ltb 0 w) (ltb w 128) p.0).1 in
+    let k : w - 1 ≤ 127 = omega arith in
+    let h : 0 < 2 ^ (w - 1) = pow_pos (w - 1) in
+    let b : 2 ^ (w - 1) - 1 < 2 ^ (w - 1) = omega arith in
+    let m : 2 ^ (w - 1) ≤ 2 ^ 127 = pow_mono k in
+    each_some Ends _ (record { low = negative_below (2 ^ (w - 1)) (2 ^ 127) (pow_pos 127) m; high = lt_of_lt_of_le b m }) a p.1
 
 negated_ends : (a : Interval) → Each Ends (neg_interval a)
 unfolding neg_interval

@@ -2,18 +2,19 @@
 use mathlib.Core.Path.{◌≡◌, refl, sym, ap, ◌∙◌, subst}
 use mathlib.Core.Bool.{true}
 use mathlib.Core.List.{List}
+use mathlib.Core.Logic.{⊎_elim}
 use Rattle.std.specs.Prelude.{Option, Some}
 use Prim.Native.Nat.{ℕ, ◌+◌, ◌-◌, ◌%◌, ◌^◌, ◌≤◌, ◌<◌}
 use native.Mathlib.Nat.{mod-lt}
 use native.Mathlib.Omega.{arith}
 use borrow.Author.Tests.{ltb-true, leb-true, eqb-true, eq-eqb}
 use lib.Dec.{ltb, leb}
-use lib.IntN.{ℤ, pos, ◌+ℤ◌, ◌-ℤ◌, +ℤ-neg_ℤ_cancel, -ℤ-+ℤ_cancel}
+use lib.IntN.{ℤ, pos, negsuc, ◌+ℤ◌, ◌-ℤ◌, +ℤ-neg_ℤ_cancel, -ℤ-+ℤ_cancel}
 use lib.Pow.{pow_pos, lt_of_le_ones}
 use lib.Signed.{le_z, ◌≤ℤ◌}
 use Rattle.word.specs.Value.{signed, residue}
 use Rattle.word.proofs.Integer.{residue-pos}
-use Rattle.range.specs.Interval.{Interval, ◌∈◌, point, between, add_interval, sub_interval}
+use Rattle.range.specs.Interval.{Interval, ◌∈◌, point, nonnegative, between, add_interval, sub_interval}
 use Rattle.range.specs.declared.ScalarType.{ScalarType}
 use Rattle.range.specs.declared.ScalarType.TheVariants as ty
 use Rattle.range.proofs.Order.{up, down, orders}
@@ -25,10 +26,10 @@ use Rattle.evaluate.specs.U128 as u128
 use Rattle.evaluate.specs.declared.Binary.{Binary}
 use Rattle.evaluate.specs.declared.Binary.TheVariants as bi
 use Rattle.evaluate.proofs.Fields.{narrow, signed-narrow}
-use Rattle.bit_laws.proofs.Sums.{under, over, wrap}
+use Rattle.bit_laws.proofs.Sums.{Wrap, under, over, wrap}
 use Rattle.graph.specs.Layout.{count_of}
 use Rattle.graph.specs.Node.{type_at}
-use Rattle.fold.specs.Shape.{is_any, ByConstant, by_constant_at, origin}
+use Rattle.fold.specs.Shape.{same_type, is_any, ByConstant, by_constant_at, origin}
 use Rattle.fold.specs.Operator.{sums}
 use Rattle.assume.specs.Limits.{Limits, limited_to}
 use Rattle.assume.specs.Refine.{undone_bits, ordered, undone_integer, undone, Next, next, base_of}
@@ -67,7 +68,18 @@ pub record Bounded (ρ : World) (g : List ℕ) (n : ℕ) (l : Limits) : Type 0 w
 -- numbers in order stay so when k is added modulo S, where the outer two do
 module _ (S k m y n : ℕ) (lk : k ≤ S) (low : m ≤ y) (high : y ≤ n) (ln : n < S) where
   turned : (m + k) % S ≤ (n + k) % S → ((m + k) % S ≤ (y + k) % S) × ((y + k) % S ≤ (n + k) % S)
-  turned e = search (arith, wrap, under, over)
+  turned e = go (wrap (m + k) S (omega arith)) (wrap (y + k) S (omega arith)) (wrap (n + k) S (omega arith))
+    where
+      go : Wrap (m + k) S ((m + k) % S) → Wrap (y + k) S ((y + k) % S) → Wrap (n + k) S ((n + k) % S)
+          → ((m + k) % S ≤ (y + k) % S) × ((y + k) % S ≤ (n + k) % S)
+      go (under a b) (under c d) (under f h) = omega arith
+      go (under a b) (under c d) (over f h) = absurd (omega arith)
+      go (under a b) (over c d) (under f h) = absurd (omega arith)
+      go (under a b) (over c d) (over f h) = absurd (omega arith)
+      go (over a b) (under c d) (under f h) = absurd (omega arith)
+      go (over a b) (under c d) (over f h) = absurd (omega arith)
+      go (over a b) (over c d) (under f h) = absurd (omega arith)
+      go (over a b) (over c d) (over f h) = omega arith
 
 -- the ends of a range inside Bits(w), as numbers
 record Numbers (w : ℕ) (low high : ℤ) : Type 0 where
@@ -79,7 +91,16 @@ record Numbers (w : ℕ) (low high : ℤ) : Type 0 where
 
 -- they are numbers
 numbers : (w : ℕ) (a : Interval) → w < 128 → Valid (ty.Bits w) a → Numbers w a.low a.high
-numbers w a h v = search (arith, tests, at_most_lem, leb-true, either, le_z, lt_of_le_ones, orders)
+numbers w a h v =
+    let t = tests (nonnegative a) _ v.inside in
+    by a.low a.high (at_most_lem (pos 0) a.low t.0) v.full
+    (⊎_elim (λ q. absurd (let p = leb-true 128 w q in omega arith)) (λ q. at_most_lem a.high (pos (2 ^ w - 1)) q)
+    (either (leb 128 w) (le_z a.high (pos (2 ^ w - 1))) t.1))
+  where
+    by : (x y : ℤ) → pos 0 ≤ℤ x → x ≤ℤ y → y ≤ℤ pos (2 ^ w - 1) → Numbers w x y
+    by (pos m) (pos n) p q r = record { m = m; n = n; least = refl; most = refl; small = lt_of_le_ones w (let k : n ≤ 2 ^ w - 1 = omega orders in k) }
+    by (pos m) (negsuc n) p q r = absurd (omega orders)
+    by (negsuc m) y p q r = absurd (omega orders)
 
 -- f is + k modulo 2 ^ w, and x is f of y
 module _ (w : ℕ) (thin : w < 128) (f : ℕ → ℕ) (k : ℕ) (lk : k ≤ 2 ^ w) (law : (n : ℕ) → n < 2 ^ w → f n % 2 ^ w ≡ (n + k) % 2 ^ w)
@@ -198,4 +219,10 @@ module _ {ρ : World} {g : List ℕ} (i : Inv ρ g) (n : ℕ) (l : n < count_of 
   -- what holds of the base, if the node is a sum with a constant
   pub base_follows : Each Follows (base_of g n a)
   unfolding base_of
-  base_follows = search (arith, each_given, each_provided, each_mapped, by_constant_follows, same_type_lem)
+  base_follows =
+      each_given Follows (by_constant_at g (origin g n))
+      (λ c e.
+      each_provided Follows (same_type (type_at g c.base) (type_at g n))
+      (λ s.
+      each_mapped Follows (next c.base) (undone (type_at g n) c.op c.value a)
+      (λ r q. by_constant_follows c e (same_type_lem (type_at g c.base) (type_at g n) s) r q)))
