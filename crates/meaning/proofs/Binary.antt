@@ -39,7 +39,7 @@ use Rattle.meaning.proofs.Values.{typed_of}
 use Rattle.meaning.proofs.Invariant.{stored_typed, Inv, inv_width, inv_valid, ext_here, ext_type, ext_value, Storable, Kept}
 use Rattle.meaning.proofs.Compared.{mask_value}
 use Rattle.meaning.proofs.Answers.{by_test, by_given, each_provided, each_given, each_or, of_any}
-use Rattle.meaning.proofs.Constants.{reduced_same, stored_low, stored_high}
+use Rattle.meaning.proofs.Constants.{reduced_same, stored_of}
 use Rattle.meaning.proofs.Field.{literal-value, operands, masked_sound, folded, first_folded}
 use Rattle.meaning.proofs.Offsets.{swapped_claim, sum_claim, offset_claim, equality_value}
 use Rattle.meaning.proofs.Plans.{Covers, Claim, Masking, FirstClaim, bits_number}
@@ -63,7 +63,7 @@ module _ {ρ : World} {g : List ℕ} (i : Inv ρ g) (t : ScalarType) (o : Binary
       let left = k.1 in
       let right = k.2 in
       record {
-        stored = record { width = omega arith; low = stored_low a ends; high = stored_high a ends; offset = omega arith; parameter = omega arith };
+        stored = stored_of wide ends (omega arith) (omega arith);
         width = k.0;
         below = omega arith;
         offset = omega arith;

@@ -26,7 +26,7 @@ use Rattle.graph.specs.Layout.{count_of}
 use Rattle.graph.specs.Node as node
 use Rattle.graph.specs.Node.{Op, type_at, operation_at}
 use Rattle.graph.specs.Insert.{start, literal}
-use Rattle.fold.specs.Shape.{same_type, same_binary}
+use Rattle.fold.specs.Shape.{same_type}
 use Rattle.bitfield.specs.Bitfield.{Bit, known, source, BitStep, here, from, flipped, has_bit, above, masked_bit, unary_bit, bit_of, bit_step, negated_bit, reached, DEPTH, bit_at, Field, no_bits, same_base, with_bit, concat_bit, field_from, low_fits, fold_bitfield_concat}
 use Rattle.plan.specs.Plan as plan
 use Rattle.plan.specs.Plan.{Plan, First, does, tries, concat_rest}
@@ -42,7 +42,7 @@ use Rattle.meaning.proofs.Compared.{mask_value}
 use Rattle.meaning.proofs.Answers.{given_is, by_test, by_given}
 use Rattle.meaning.proofs.Invariant.{Inv, inv_below, ext_here, ext_type, ext_value, Storable, Kept}
 use Rattle.meaning.proofs.Tree.{Callable}
-use Rattle.meaning.proofs.Constants.{stored_low, stored_high, low_valued}
+use Rattle.meaning.proofs.Constants.{stored_of, low_valued}
 use Rattle.meaning.proofs.Plans.{Claim, FirstClaim, bits_number}
 use Rattle.meaning.proofs.Ranges.{type-within, type-ends}
 use Rattle.meaning.proofs.Field.{means_at, below_at, literal-value, sides, Gathers, FieldSays, high_small, low_small, field_sound}
@@ -57,13 +57,7 @@ concat_storable ρ g high low v w c =
     let lh = c.2 in
     let ll = c.3 in
     record {
-      stored = record {
-        width = omega arith;
-        low = stored_low (type_interval (ty.Bits w)) (type-ends (ty.Bits w));
-        high = stored_high (type_interval (ty.Bits w)) (type-ends (ty.Bits w));
-        offset = omega arith;
-        parameter = omega arith;
-      };
+      stored = stored_of wide (type-ends (ty.Bits w)) (omega arith) narrow;
       width = wide;
       below = omega arith;
       offset = omega arith;
@@ -109,11 +103,7 @@ BaseHere g (Some m) = m < count_of g
 
 module _ (g : List ℕ) (n i : ℕ) (l : n < count_of g) where
   masked_here : (o : Binary) (set : Bool) (p : ℕ) → p < count_of g → StepHere g (masked_bit o n set p i)
-  masked_here o set p q =
-      by_test (StepHere g) (same_binary o bi.And) (λ e. by_test (StepHere g) set (λ e. q) (λ e. tt))
-      (λ e.
-      by_test (StepHere g) (same_binary o bi.Or) (λ e. by_test (StepHere g) set (λ e. tt) (λ e. q))
-      (λ e. by_test (StepHere g) (same_binary o bi.Xor) (λ e. by_test (StepHere g) set (λ e. q) (λ e. q)) (λ e. l)))
+  masked_here o set p q = search (arith, by_test)
 
   unary_here : (o : Unary) (p : ℕ) → p < count_of g → StepHere g (unary_bit o n p i)
   unary_here un.BoolNot p q = l

@@ -22,8 +22,9 @@ use Rattle.range.proofs.Valid.{Valid, point_inside}
 use Rattle.evaluate.specs.Evaluate.{reduced}
 use Rattle.evaluate.specs.Operator.{type_width}
 use Rattle.graph.specs.Node as node
+use Rattle.graph.specs.Node.{Op, op_z}
 use Rattle.graph.specs.Insert.{constant_interval}
-use Rattle.graph.proofs.Codes.{low_end, high_end}
+use Rattle.graph.proofs.Codes.{low_end, high_end, op_offset, Stored}
 use Rattle.meaning.specs.Value.{size, integer_of, of_type, valued}
 use Rattle.meaning.proofs.Worlds.{World, operation_means, operand}
 use Rattle.meaning.proofs.Values.{typed_of}
@@ -128,11 +129,15 @@ stored_end : (f : Option Interval → ℤ) → f None ≡ pos 0 → ((a : Interv
 stored_end f z k None e = rw z (pow_pos 127)
 stored_end f z k (Some a) e = k a (e a refl)
 
-pub stored_low : (r : Option Interval) → ((a : Interval) → r ≡ Some a → Ends a) → mag (low_end r) < 2 ^ 127
-stored_low = stored_end low_end refl (λ a e. e.low)
-
-pub stored_high : (r : Option Interval) → ((a : Interval) → r ≡ Some a → Ends a) → mag (high_end r) < 2 ^ 127
-stored_high = stored_end high_end refl (λ a e. e.high)
+pub stored_of : {t : ScalarType} {r : Option Interval} {o : Op} → type_width t ≤ 128 → ((a : Interval) → r ≡ Some a → Ends a)
+    → op_offset o < 128 → op_z o ≤ 128 → Stored t r o
+stored_of {t} {r} {o} wide ends offset parameter = record {
+  width = omega arith;
+  low = stored_end low_end refl (λ a e. e.low) r ends;
+  high = stored_end high_end refl (λ a e. e.high) r ends;
+  offset = omega arith;
+  parameter = omega arith;
+}
 
 module _ (ρ : World) (g : List ℕ) (t : ScalarType) (c : ℕ) (l : type_width t ≤ 128) (h : c < size t) where
   pub constant-means : operation_means ρ t (node.constant c) (operand ρ g) ≡ Some c
@@ -140,13 +145,7 @@ module _ (ρ : World) (g : List ℕ) (t : ScalarType) (c : ℕ) (l : type_width 
 
   pub constant_storable : Storable ρ g t (constant_interval t c) (node.constant c)
   constant_storable = record {
-    stored = record {
-      width = omega arith;
-      low = stored_low (constant_interval t c) (constant-ends t c l h);
-      high = stored_high (constant_interval t c) (constant-ends t c l h);
-      offset = omega arith;
-      parameter = omega arith;
-    };
+    stored = stored_of l (constant-ends t c l h) (omega arith) (omega arith);
     width = l;
     below = omega arith;
     offset = omega arith;

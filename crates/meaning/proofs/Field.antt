@@ -63,11 +63,7 @@ says_same ρ g v u i j (source m k) e h = (h.0, h.1, h.2, e ∙ h.3)
 
 set_is : (v i : ℕ) → from_bool (has_bit v i) ≡ bit v i
 unfolding bit
-set_is v i = go (has_bit v i) refl (mod-lt (v / 2 ^ i) (omega arith))
-  where
-    go : (b : Bool) → eqb (v / 2 ^ i % 2) 1 ≡ b → v / 2 ^ i % 2 < 2 → from_bool b ≡ v / 2 ^ i % 2
-    go true e l = sym (eqb-true (v / 2 ^ i % 2) 1 e)
-    go false e l = omega (arith, eqb-false (v / 2 ^ i % 2) 1 e)
+set_is v i = search (arith, mod-lt, eqb-true, eqb-false)
 
 valued-bit : (t : ScalarType) (z v i : ℕ) → valued t z ≡ Some v → above t i ≡ false → bit v i ≡ bit z i
 valued-bit ty.Bool z v i e a = ap (λ (n : ℕ). bit n i) (typed_is ty.Bool z v e).0
@@ -349,11 +345,21 @@ pub record FieldSays (ρ : World) (g : List ℕ) (x w : ℕ) (f : Field) : Type 
   pub says : Gathers ρ g x f.base f.keep f.literal
 
 module _ (ρ : World) (g : List ℕ) (x i : ℕ) where
+  -- the places so far, of the node so far, or of any where nothing of it is kept
+  of_base : (m u keep lit : ℕ) (o : Option ℕ) → (h : Parts ρ g x i o keep lit) → value ρ g m ≡ Some u → same_base o m ≡ true
+      → (j : ℕ) → j < i → bit x j ≡ max (min (bit u j) (bit keep j)) (bit lit j)
+  of_base m u keep lit None h eu q j p =
+      let z : keep ≡ 0 = h.bare refl in
+      omega (arith, h.places j p, ap (λ (y : ℕ). bit y j) z, bit-zero j)
+  of_base m u keep lit (Some c) h eu q j p =
+      let e : c ≡ m = eqb-true c m q in
+      let ub : h.base ≡ u = some_is (sym h.origin.1 ∙ ap (value ρ g) e ∙ eu) in
+      omega (arith, h.places j p, ap (λ (y : ℕ). bit y j) ub)
+
   -- a bit of a node: of the one so far, or of the first
   kept_place : (m u keep lit : ℕ) (o : Option ℕ) → Parts ρ g x i o keep lit → m < count_of g → value ρ g m ≡ Some u → bit x i ≡ bit u i
       → same_base o m ≡ true → Parts ρ g x (suc i) (Some m) (1 * 2 ^ i + keep) lit
-  kept_place m u keep lit None h lm eu b q =
-      let z : keep ≡ 0 = h.bare refl in
+  kept_place m u keep lit o h lm eu b q =
       let s = h.small in
       let lk = s.0 in
       let ll = s.1 in
@@ -364,23 +370,7 @@ module _ (ρ : World) (g : List ℕ) (x i : ℕ) where
         small = (omega (arith, two-pow-succ i), omega (arith, two-pow-succ i));
         places = λ j l.
             one_more_lem i j l (λ k. bit x k ≡ max (min (bit u k) (bit (1 * 2 ^ i + keep) k)) (bit lit k))
-            (λ p. omega (arith, h.places j p, set_below keep i j lk p, ap (λ (y : ℕ). bit y j) z, bit-zero j))
-            (omega (arith, b, set_here keep i lk, bit_big lit i i ll (omega arith), bit-lt u i));
-      }
-  kept_place m u keep lit (Some c) h lm eu b q =
-      let e : c ≡ m = eqb-true c m q in
-      let ub : h.base ≡ u = some_is (sym h.origin.1 ∙ ap (value ρ g) e ∙ eu) in
-      let s = h.small in
-      let lk = s.0 in
-      let ll = s.1 in
-      record {
-        base = u;
-        origin = (lm, eu);
-        bare = λ e. absurd (none-some (sym e));
-        small = (omega (arith, two-pow-succ i), omega (arith, two-pow-succ i));
-        places = λ j l.
-            one_more_lem i j l (λ k. bit x k ≡ max (min (bit u k) (bit (1 * 2 ^ i + keep) k)) (bit lit k))
-            (λ p. omega (arith, h.places j p, set_below keep i j lk p, ap (λ (y : ℕ). bit y j) ub))
+            (λ p. omega (arith, of_base m u keep lit o h eu q j p, set_below keep i j lk p))
             (omega (arith, b, set_here keep i lk, bit_big lit i i ll (omega arith), bit-lt u i));
       }
 
@@ -401,19 +391,7 @@ module _ (ρ : World) (g : List ℕ) (x i : ℕ) where
       }
 
   clear_place : (o : Option ℕ) (keep lit : ℕ) → Parts ρ g x i o keep lit → bit x i ≡ 0 → Parts ρ g x (suc i) o keep lit
-  clear_place o keep lit h b =
-      let s = h.small in
-      let lk = s.0 in
-      let ll = s.1 in
-      record {
-        base = h.base;
-        origin = h.origin;
-        bare = h.bare;
-        small = (omega (arith, two-pow-succ i), omega (arith, two-pow-succ i));
-        places = λ j l.
-            one_more_lem i j l (λ k. bit x k ≡ max (min (bit h.base k) (bit keep k)) (bit lit k)) (λ p. h.places j p)
-            (omega (arith, b, bit_big lit i i ll (omega arith), bit_big keep i i lk (omega arith)));
-      }
+  clear_place o keep lit h b = search (arith, two-pow-succ, one_more_lem, bit_big)
 
   with_bit_lem : (f r : Field) (b : Bit) → i < 128 → Parts ρ g x i f.base f.keep f.literal → Says ρ g x i b → with_bit f i b ≡ Some r
       → Parts ρ g x (suc i) r.base r.keep r.literal
@@ -652,19 +630,7 @@ pub record MaskSays (ρ : World) (g : List ℕ) (o : Binary) (x y : ℕ) (m : Ma
   pub means : eqb x y ≡ eqb (bit_and base m.mask) m.literal
 
 mask_swap : (ρ : World) (g : List ℕ) (o : Binary) (x y : ℕ) (m : Mask) → MaskSays ρ g o y x m → MaskSays ρ g o x y m
-mask_swap ρ g o x y m s = record {
-  width = s.width;
-  type = s.type;
-  here = s.here;
-  typed = s.typed;
-  mask = s.mask;
-  literal = s.literal;
-  result = s.result;
-  op = s.op;
-  base = s.base;
-  has = s.has;
-  means = eqb_sym x y ∙ s.means;
-}
+mask_swap ρ g o x y m s = search (arith, eqb_sym)
 
 module _ (ρ : World) (g : List ℕ) (inv : Inv ρ g) (n w x y : ℕ) (l : n < count_of g) (t : type_at g n ≡ ty.Bits w) (ey : value ρ g n ≡ Some y) (c : ByConstant)
     (o : c.op ≡ bi.And) (ex : value ρ g c.base ≡ Some x) where

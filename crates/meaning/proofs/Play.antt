@@ -31,11 +31,11 @@ use Rattle.graph.specs.Node as node
 use Rattle.graph.specs.Node.{Op, type_at, words_of}
 use Rattle.graph.specs.WellFormed.{is_graph}
 use Rattle.graph.specs.Insert as graph
-use Rattle.graph.specs.Insert.{Reply, constant_interval, interned, appended, found_or, inserted}
+use Rattle.graph.specs.Insert.{Reply, interned, appended, found_or, inserted}
 use Rattle.graph.proofs.Nodes.{appended_made, appended_full}
 use Rattle.graph.proofs.Grown.{Graph, graph_facts}
 use Rattle.graph.proofs.Restored.{Same, same_self}
-use Rattle.fold.specs.Shape.{same_type, same_binary}
+use Rattle.fold.specs.Shape.{same_binary}
 use Rattle.assume.specs.Refine as refine
 use Rattle.assume.specs.Refine.{Outcome}
 use Rattle.assume.specs.Assume.{assumed_guard}
@@ -67,7 +67,7 @@ use Rattle.meaning.specs.Book.{Action, request, retain, mark, return_to, pattern
 use Rattle.meaning.proofs.Values.{typed_is}
 use Rattle.graph.proofs.Appended.{empty_graph}
 use Rattle.meaning.proofs.Invariant.{shiftable, stored_typed, Ends, Within, Inv, Extends, ext_here, ext_value, Storable, Kept, Answered, insert_good}
-use Rattle.meaning.proofs.Constants.{reduced_same, stored_low, stored_high, constant_storable}
+use Rattle.meaning.proofs.Constants.{reduced_same, stored_of, constant_storable}
 use Rattle.meaning.proofs.Answers.{by_test, each_else, binary_is}
 use Rattle.meaning.proofs.Ranges.{type-within, type-ends}
 use Rattle.meaning.proofs.Assumed.{assumed_kept}
@@ -87,16 +87,7 @@ At ρ cs = record { env = ρ; IsSure = AllMet ρ cs }
 
 -- what holds where these conditions are met holds where more are
 weaken : (ρ : Env) (cs ds : List Condition) {g : List ℕ} → (AllMet ρ ds → AllMet ρ cs) → Inv (At ρ cs) g → Inv (At ρ ds) g
-weaken ρ cs ds f i = record {
-  graph = i.graph;
-  exact = i.exact;
-  keys = i.keys;
-  typed = i.typed;
-  refined = λ n l m. i.refined n l (f m);
-  ends = i.ends;
-  ranged = λ n l m. i.ranged n l (f m);
-  alias = λ n l. ⊎_elim (λ e. inl e) (λ d. inr (record { here = d.here; type = d.type; means = d.means; inside = d.inside })) (i.alias n l);
-}
+weaken ρ cs ds f i = search arith
 
 met_rest : (ρ : Env) (cs ds : List Condition) → AllMet ρ (cs ++ ds) → AllMet ρ ds
 met_rest ρ [] ds m = m
@@ -148,15 +139,7 @@ request_covers ρ (asks.unnamed ws is) f h c = λ x e. e
 -- ---- the table of calls is that of stored nodes
 
 shift_stored : (a b t : ScalarType) → binary_typed bi.ShiftLeft a b t ≡ true → stored_typed bi.ShiftLeft a b t ≡ true
-shift_stored a b t e =
-    let d = tests (is_number t) _ e in
-    let f = tests (same_type a t) (is_number b) d.1 in
-    rw f.1 (by t d.0 (same_type_lem a t f.0))
-  where
-    by : (t : ScalarType) → is_number t ≡ true → a ≡ t → shiftable a t && true ≡ true
-    by ty.Bool n q = absurd (false≢true n)
-    by (ty.Bits w) n q = rw (q, le-leb w w (le_refl w))
-    by ty.Integer n q = rw q
+shift_stored a b t e = search (arith, tests, same_type_lem, shiftable, le-leb, le_refl)
 
 table_stored : (o : Binary) (a b t : ScalarType) → binary_typed o a b t ≡ true → stored_typed o a b t ≡ true
 table_stored o a b t e = by (same_binary o bi.ShiftLeft) refl
@@ -205,12 +188,7 @@ module _ (ρ : Env) (s : State) (i : Inv (At ρ s.book.conditions) s.graph) (r :
     -- a call that answers a node
     id_fine : (t : ScalarType) (w : Option ℕ) (n : ℕ) (h : List ℕ) → Answered (At ρ (cs ++ s.book.conditions)) s.graph t w (graph.id n) h
         → (AllMet ρ (cs ++ s.book.conditions) → Covers v w) → After (calls.called (calls.id n) h)
-    id_fine t w n h k c = (
-      k.0.inv,
-      λ m. lines_more ρ h s.book.lines (record { id = n; val = v })
-          (lines_ext ρ k.0.grows s.book.lines (r (met_rest ρ cs s.book.conditions m)))
-          (record { here = k.1.here; means = λ x e. k.1.means m x (c m x e) }),
-    )
+    id_fine t w n h k c = search (arith, lines_more, lines_ext, met_rest)
 
   -- what a builder's answer and words are to the caller
   abbrev Settled : Reply → List ℕ → Called
@@ -252,11 +230,7 @@ module _ (ρ : Env) (s : State) (i : Inv (At ρ s.book.conditions) s.graph) (r :
   constant_fine : (t : ScalarType) (v : ℕ) → v < 2 ^ 128 → type_width t ≤ 128 → is_bool_value t v ≡ true
       → After (valued t v) [] (Settled (graph.constant s.graph t v).answer (graph.constant s.graph t v).words)
   unfolding graph.constant
-  constant_fine t v p wide d =
-      let c = reduced t v in
-      let small : c < size t = number t v p d in
-      leaf_fine t (constant_interval t c) (node.constant c) (valued t v) [] (constant_storable here s.graph t c wide small)
-      (λ x q. ap (of_type t) (reduced_same t c small) ∙ q)
+  constant_fine t v p wide d = search (arith, number, leaf_fine, constant_storable, reduced_same)
 
   given_valid : (t : ScalarType) (r : Option Interval) → is_range_of t r ≡ true → (a : Interval) → or_else r (type_interval t) ≡ Some a → Valid t a
   given_valid t None d a e = type_valid t a e
@@ -269,13 +243,7 @@ module _ (ρ : Env) (s : State) (i : Inv (At ρ s.book.conditions) s.graph) (r :
   input_storable n t p bounded wide d =
       let ends = each_else Ends p bounded (type-ends t) in
       record {
-        stored = record {
-          width = omega arith;
-          low = stored_low (or_else p (type_interval t)) ends;
-          high = stored_high (or_else p (type_interval t)) ends;
-          offset = omega arith;
-          parameter = omega arith;
-        };
+        stored = stored_of wide ends (omega arith) (omega arith);
         width = wide;
         below = omega arith;
         offset = omega arith;
@@ -293,13 +261,7 @@ module _ (ρ : Env) (s : State) (i : Inv (At ρ s.book.conditions) s.graph) (r :
 
   effect_storable : (n : ℕ) (t : ScalarType) → type_width t ≤ 128 → Storable (At ρ (effect_is n t ∷ s.book.conditions)) s.graph t (type_interval t) (node.effect n)
   effect_storable n t wide = record {
-    stored = record {
-      width = omega arith;
-      low = stored_low (type_interval t) (type-ends t);
-      high = stored_high (type_interval t) (type-ends t);
-      offset = omega arith;
-      parameter = omega arith;
-    };
+    stored = stored_of wide (type-ends t) (omega arith) (omega arith);
     width = wide;
     below = omega arith;
     offset = omega arith;
@@ -482,12 +444,7 @@ module _ (ρ : Env) (h : History) (w : Whole ρ h) where
 
   -- a request
   request_whole : (s : State) → Fine ρ s → Same (count_of g) g s.graph → Whole ρ (record { now = s; marks = m; books = h.books })
-  request_whole s fine same = record {
-    now = fine;
-    marks = kept_marks g s.graph m f w.marks same;
-    standing = w.standing;
-    then = λ k l. fine_same ρ {a = get_or h.books k blank} (kept_returned g s.graph m f w.marks same k (stands k l)) refl (w.then k l);
-  }
+  request_whole s fine same = search (arith, kept_marks, f, fine_same, kept_returned, stands)
 
   -- a mark
   set_whole : standing m < MOST → Whole ρ (record { now = h.now; marks = marked g m (standing m); books = h.books ++ (h.now.book ∷ []) })
@@ -596,16 +553,7 @@ module _ (builds : (w : World) → Sound w build.build)
   act_whole (return_to k) h w = return_whole ρ h w k
 
   empty_inv : Inv (At ρ []) (replicate REGION 0)
-  empty_inv = record {
-    graph = empty_graph;
-    exact = λ n l. absurd (omega arith);
-    keys = λ n m a b e. absurd (omega arith);
-    typed = λ n l. absurd (omega arith);
-    refined = λ n l. absurd (omega arith);
-    ends = λ n l. absurd (omega arith);
-    ranged = λ n l. absurd (omega arith);
-    alias = λ n l. absurd (omega arith);
-  }
+  empty_inv = search (arith, empty_graph)
 
   pub play_whole : (m : List ℕ) → Unmarked m → (calls : List Action) → Whole ρ (play ρ m calls)
   unfolding play

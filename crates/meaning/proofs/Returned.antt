@@ -16,13 +16,12 @@ use Rattle.graph.proofs.Earlier.{same_then}
 use Rattle.native.specs.Call as calls
 use Rattle.native.specs.Perform.{request_call}
 use Rattle.native.specs.Retain as retaining
-use Rattle.native.specs.Retain.{Retention, retention, retain_in_graph}
-use Rattle.retain.specs.Retain.{is_keep_list, kept_below}
+use Rattle.native.specs.Retain.{retention, retain_in_graph}
 use Rattle.request.specs.Request.{Request}
 use Rattle.mark.specs.Layout.{MOST, standing, count_at, aliases_at}
 use Rattle.mark.specs.WellFormed.{is_marked}
 use Rattle.mark.specs.Mark as marks
-use Rattle.mark.specs.Mark.{Marking, Returning, Retaining, standing_only, marked, unmarked, mark_call, mark_in_graph, return_call, return_in_graph}
+use Rattle.mark.specs.Mark.{Returning, Retaining, standing_only, marked, mark_call, mark_in_graph, return_call, return_in_graph}
 use Rattle.mark.proofs.Facts.{regions_facts}
 use Rattle.mark.proofs.Marks.{Stands, standing_is, standing_stands, marked-standing, marked-count, marked_alias, marked_stands, returned_is}
 use Rattle.mark.proofs.Moved.{returned_same}
@@ -41,12 +40,7 @@ record Holds (g : List ℕ) (n : ℕ) (r : Regions) : Type 0 where
 module _ (g : List ℕ) (f : Graph g) (n : ℕ) (r : Regions) (h : Holds g n r) where
   -- regions in which the mark stands
   moved : (s : Regions) → Same (count_of g) g s.graph → n < standing s.marks → Stands r.marks s.marks n → Holds g n s
-  moved s same l k = record {
-    same = same;
-    stands = l;
-    count = k.count ∙ h.count;
-    words = λ i p. k.words i (omega (arith, f.count)) ∙ h.words i p;
-  }
+  moved s same l k = search arith
 
   itself : Stands r.marks r.marks n
   itself = record { count = refl; words = λ i l. refl }
@@ -73,12 +67,7 @@ module _ (g : List ℕ) (f : Graph g) (n : ℕ) (r : Regions) (h : Holds g n r) 
 
   mark_holds : Holds g n (left mark r)
   unfolding mark_call mark_in_graph
-  mark_holds =
-      by_test (λ (c : Marking). Holds g n (record { graph = r.graph; marks = c.marks })) (is_marked r.graph r.marks)
-      (λ e.
-      by_test (λ (c : Marking). Holds g n (record { graph = r.graph; marks = c.marks })) (ltb (standing r.marks) MOST)
-      (λ l. set_holds e (ltb-true (standing r.marks) MOST l)) (λ l. h))
-      (λ e. h)
+  mark_holds = search (arith, by_test, set_holds, ltb-true)
 
   -- a return to it or to a later one
   back_holds : (k : ℕ) → is_marked r.graph r.marks ≡ true → k < standing r.marks → n ≤ k
@@ -107,14 +96,7 @@ module _ (g : List ℕ) (f : Graph g) (n : ℕ) (r : Regions) (h : Holds g n r) 
   retain_holds : (keep mapping : List ℕ)
       → ((k : ℕ) → (marks.retain_call r.graph r.marks keep mapping).retention.outcome ≡ retaining.kept k → ⊥) → Holds g n (left (retain keep mapping) r)
   unfolding marks.retain_call marks.retain_in_graph retain_in_graph
-  retain_holds keep mapping =
-      by_test (λ (c : Retaining). Refused c → Holds g n (record { graph = c.retention.words; marks = c.marks })) (is_marked r.graph r.marks)
-      (λ e.
-      by_test
-      (λ (x : Retention). Refused (marks.retaining x (unmarked x.outcome r.marks)) → Holds g n (record { graph = x.words; marks = unmarked x.outcome r.marks }))
-      (is_keep_list r.graph keep mapping)
-      (λ c p. absurd (p (kept_below keep (count_of r.graph)) refl)) (λ c p. h))
-      (λ e p. h)
+  retain_holds keep mapping = search (arith, by_test)
 
   left_holds : (a : Action) → Spares n r a → Holds g n (left a r)
   left_holds (request q) s = request_holds (patterned q)
@@ -132,12 +114,7 @@ all_hold g f n r h (a ∷ before) s = left_holds g f n (left_by before r) (all_h
 -- the number that a mark was answered with
 pub mark-number : (g m : List ℕ) (n : ℕ) → (mark_call g m).answer ≡ marks.number n → (is_marked g m ≡ true) × (standing m < MOST) × (standing m ≡ n)
 unfolding mark_call mark_in_graph
-mark-number g m n =
-    by_test (λ (c : Marking). c.answer ≡ marks.number n → (is_marked g m ≡ true) × (standing m < MOST) × (standing m ≡ n)) (is_marked g m)
-    (λ e.
-    by_test (λ (c : Marking). c.answer ≡ marks.number n → (is_marked g m ≡ true) × (standing m < MOST) × (standing m ≡ n)) (ltb (standing m) MOST)
-    (λ l q. (e, ltb-true (standing m) MOST l, cc)) (λ l q. let z : ◌≡◌ {A = ℕ} 0 1 = cc in absurd (omega arith)))
-    (λ e q. let z : ◌≡◌ {A = ℕ} 0 1 = cc in absurd (omega arith))
+mark-number g m n = search (arith, by_test, ltb-true)
 
 -- what it leaves of the marks' region
 mark-marks : (g m : List ℕ) → is_marked g m ≡ true → standing m < MOST → (mark_call g m).marks ≡ marked g m (standing m)
@@ -162,12 +139,7 @@ marked_holds g m n q =
 -- what a return that isn't refused leaves of the graph's region
 done_words : (g m : List ℕ) (n : ℕ) → (return_call g m n).answer ≡ calls.done → (return_call g m n).words ≡ marks.returned g m n
 unfolding return_call return_in_graph
-done_words g m n =
-    by_test (λ (c : Returning). c.answer ≡ calls.done → c.words ≡ marks.returned g m n) (is_marked g m)
-    (λ e.
-    by_test (λ (c : Returning). c.answer ≡ calls.done → c.words ≡ marks.returned g m n) (ltb n (standing m)) (λ l q. refl)
-    (λ l q. let z : ◌≡◌ {A = ℕ} 0 1 = cc in absurd (omega arith)))
-    (λ e q. let z : ◌≡◌ {A = ℕ} 0 1 = cc in absurd (omega arith))
+done_words g m n = search (arith, by_test)
 
 -- a mark set on any regions that pass question 1, and any calls after it that leave it standing: a return to it that isn't refused gives
 -- back the region, word for word

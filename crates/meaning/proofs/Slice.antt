@@ -17,7 +17,7 @@ use Rattle.word.specs.Value.{residue}
 use Rattle.word.specs.Option.{given}
 use Rattle.word.proofs.Integer.{residue-pos}
 use Rattle.word.proofs.Shifts.{right_all}
-use Rattle.range.specs.Interval.{Interval, nonnegative, type_interval, inside_bits}
+use Rattle.range.specs.Interval.{Interval, nonnegative, inside_bits}
 use Rattle.range.specs.declared.ScalarType.{ScalarType}
 use Rattle.range.specs.declared.ScalarType.TheVariants as ty
 use Rattle.range.proofs.Order.{le_parts}
@@ -41,7 +41,7 @@ use Rattle.meaning.proofs.Worlds.{World, operand, value}
 use Rattle.meaning.proofs.Values.{typed_is, then_is, means_small}
 use Rattle.meaning.proofs.Answers.{by_test, by_provided, by_given}
 use Rattle.meaning.proofs.Invariant.{Inv, inv_width, ext_here, ext_value, Kept}
-use Rattle.meaning.proofs.Constants.{valued_same, stored_low, stored_high, low_valued}
+use Rattle.meaning.proofs.Constants.{valued_same, stored_of, low_valued}
 use Rattle.meaning.proofs.Plans.{Covers, Claim, FirstClaim, bits_number}
 use Rattle.meaning.proofs.Views.{same_type_lem, value_small, value_pattern, any_within}
 use Rattle.meaning.proofs.Ranges.{type-within, type-ends}
@@ -140,28 +140,7 @@ module _ {ρ : World} {g : List ℕ} (i : Inv ρ g) (n o w : ℕ) (l : n < count
   -- ---- by the operation
 
   new_claim : o < 128 → Asked (new_slice n o w)
-  new_claim small = (
-    refl,
-    record {
-      stored = record {
-        width = omega arith;
-        low = stored_low (type_interval (ty.Bits w)) (type-ends (ty.Bits w));
-        high = stored_high (type_interval (ty.Bits w)) (type-ends (ty.Bits w));
-        offset = omega arith;
-        parameter = omega arith;
-      };
-      width = wide;
-      below = omega arith;
-      offset = small;
-      parameter = wide;
-      valid = type_valid (ty.Bits w);
-      typed = refl;
-      refined = λ sure. tt;
-      ends = type-ends (ty.Bits w);
-      within = λ sure v q. type-within (ty.Bits w) v (means_small ρ.env (ty.Bits w) (node.slice n o w) (operand ρ g) v q);
-    },
-    λ sure v q. q,
-  )
+  new_claim small = search (arith, stored_of, type-ends, type_valid, type-within, means_small, operand)
 
   inner_claim : (m p u : ℕ) → operation_at g n ≡ node.slice m p u → o + w ≤ u → Asked (plan.slice m (p + o) w)
   inner_claim m p u e f =

@@ -46,7 +46,7 @@ use Rattle.meaning.proofs.Worlds.{World, operand, value}
 use Rattle.meaning.proofs.Values.{typed_is, then_is, truth_small}
 use Rattle.meaning.proofs.Invariant.{stored_typed, Ends, Inv, inv_width, inv_valid, Storable}
 use Rattle.meaning.proofs.Answers.{both_given_lem, by_test, of_any, among, answering, Each, each_none, each_some, each_provided, each_mapped, each_else}
-use Rattle.meaning.proofs.Constants.{stored_low, stored_high}
+use Rattle.meaning.proofs.Constants.{stored_of}
 use Rattle.meaning.proofs.Plans.{Covers, Claim}
 use Rattle.meaning.proofs.Views.{same_type_lem, value_small, value_pattern, covers_truncate, fits_facts, fits_small}
 use Rattle.meaning.proofs.Ranges.{bits_rules, integer_rules, fitted_is, quotient_is, type-ends, stored_within, held_at}
@@ -459,13 +459,7 @@ module _ {ρ : World} {g : List ℕ} (i : Inv ρ g) (n : ℕ) (l : n < count_of 
   unary_storable r e =
       let ends = unary-ends o t (range_at g n) r (i.ends n l) e in
       record {
-        stored = record {
-          width = omega arith;
-          low = stored_low r ends;
-          high = stored_high r ends;
-          offset = omega arith;
-          parameter = omega arith;
-        };
+        stored = stored_of wide ends (omega arith) width;
         width = wide;
         below = omega arith;
         offset = omega arith;
