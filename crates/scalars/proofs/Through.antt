@@ -75,18 +75,6 @@ whole_more : (rs : List (List ℕ)) (r : List ℕ) → AllWhole rs → first_len
 whole_more [] r w e = (e, tt)
 whole_more (q ∷ rs) r w e = (w.0, whole_more rs r w.1 e)
 
--- nothing is read yet
-pub through-none : (g m input out : List ℕ) → Grown g → Through g m input out 0 0 false g m out
-through-none g m input out w = record {
-  records = [];
-  whole = tt;
-  bytes = refl;
-  run = refl;
-  within = (omega arith, omega arith);
-  rest = refl;
-  grown = w;
-}
-
 pub through_more : {g m input out h w after : List ℕ} {read written : ℕ} → Bytes input → Through g m input out read written false h w after
     → length after ≡ length out → {k n : ℕ} {is_last : Bool} {i x line : List ℕ}
     → Wrote h w (drop read input) (drop written after) k n is_last i x line
