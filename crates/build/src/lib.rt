@@ -34,10 +34,7 @@ impl Budget {
     fn spend(&mut self) -> Result<(), Unbuilt>
         ensures { MatchResult result (λ _. self.old.units ≡ self.new.units + 1) (λ e. (e ≡ Unbuilt.Units) × (self.old.units ≡ 0) × (self.new.units ≡ 0)) }
     {
-        if self.units == 0 {
-            return Err(Unbuilt::Units);
-        }
-        self.units -= 1;
+        self.units = self.units.checked_sub(1).ok_or(Unbuilt::Units)?;
         Ok(())
     }
 }
