@@ -1,5 +1,5 @@
 -- Laws of programs, each proved once whatever the builders do: units fall, fuel does not matter, and what follows an answer.
-use Prim.Native.Nat.{ℕ, zero, suc, ◌-◌, ◌<◌, ◌≤◌, zero-le}
+use Prim.Native.Nat.{ℕ, zero, suc, ◌+◌, ◌-◌, ◌<◌, ◌≤◌, zero-le}
 use mathlib.Core.Path.{◌≡◌, refl, sym, ap, ◌∙◌}
 use mathlib.Core.Bool.{Bool, true, false, true≢false}
 use mathlib.Core.List.{List}
@@ -140,14 +140,6 @@ pub entered_is : (c : Call) (s : Start) (u : ℕ) (g : List ℕ) → step c g �
 entered_is c s zero g e = sym (build-none c zero g refl)
 entered_is c s (suc u) g e = sym (build_step c (suc u) g (λ q. omega (arith, q)) ∙ rw (sub-one, e))
 
--- one step of it
-pub entered_none : (s : Start) (u : ℕ) (g : List ℕ) → u ≡ 0 → entered s u g ≡ out units 0 g
-entered_none s u g e = rw e
-
-pub entered_step : (s : Start) (u : ℕ) (g : List ℕ) → (u ≡ 0 → ⊥) → entered s u g ≡ exec build (first_prog (start_first s g)) (u - 1) g
-entered_step s zero g e = absurd (e refl)
-entered_step s (suc u) g e = rw sub-one
-
 build_falls : (c : Call) (u : ℕ) (g : List ℕ) → left (build c u g) ≤ u
 unfolding build
 build_falls c u g = run_falls u c u g
@@ -201,9 +193,11 @@ pub try_none : (v w u : ℕ) (k : List ℕ → Prog) (g : List ℕ) → u ≡ 0 
 try_none v w u k g e = rw (build-none (modular v w) u g e)
 
 -- whose plan is None: the unit is spent
-pub try_stop : (v w u : ℕ) (k : List ℕ → Prog) (g : List ℕ) → (u ≡ 0 → ⊥) → is_stop (modular_plan g v w) ≡ true
-    → exec build (tries (tail (modular v w)) k) u g ≡ exec build (k g) (u - 1) g
-try_stop v w u k g e s = rw (build_step (modular v w) u g e, is_stop_lem (modular_plan g v w) s)
+pub try_stop : (v w u n : ℕ) (k : List ℕ → Prog) (g : List ℕ) → u ≡ n + 1 → is_stop (modular_plan g v w) ≡ true
+    → exec build (tries (tail (modular v w)) k) u g ≡ exec build (k g) n g
+try_stop v w u n k g e s =
+    let m : u - 1 ≡ n = omega (arith, e) in
+    rw (build_step (modular v w) u g (λ z. omega (arith, e, z)), is_stop_lem (modular_plan g v w) s, m)
 
 -- ---- what an answer is not
 

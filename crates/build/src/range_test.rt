@@ -4,7 +4,7 @@ ghost use Rattle.word.specs.Value.{val};
 ghost use Rattle.graph.specs.Insert.{built_of};
 ghost use Rattle.build.specs.Build.{out, build, exec, is_testable, range_prog, unsigned_range};
 
-use crate::{Budget, Done, constant_binary};
+use crate::{Budget, constant_binary};
 use evaluate::Binary;
 use graph::layout::Region;
 use graph::read::type_at;
@@ -24,22 +24,19 @@ fn is_testable(width: u16, low: Word, high: Word) -> bool
 // value - low <= high - low.
 fn difference_test(
     g: &mut Region,
-    budget: Budget,
+    budget: &mut Budget,
     ty: ScalarType,
     value: NodeId,
     low: Word,
     high: Word,
-) -> Done
-    ensures { out (built_of result.built) result.budget.units g.new ≡ exec build (range_prog ty value.0 (val low) (val high)) budget.units g.old }
+) -> Result<NodeId, Unbuilt>
+    ensures { out (built_of result) budget.new.units g.new ≡ exec build (range_prog ty value.0 (val low) (val high)) budget.old.units g.old }
 {
-    let offset = constant_binary(g, budget, ty, low, ty, Binary::Sub, value);
-    let Ok(difference) = offset.built else {
-        return offset;
-    };
+    let difference = constant_binary(g, budget, ty, low, ty, Binary::Sub, value)?;
     let extent = high.wrapping_sub(low);
     constant_binary(
         g,
-        offset.budget,
+        budget,
         ty,
         extent,
         ScalarType::Bool,
@@ -49,16 +46,19 @@ fn difference_test(
 }
 
 #[tactic(auto, unfolding(crate::specs::Build::unsigned_range))]
-pub fn unsigned_range(g: &mut Region, budget: Budget, value: NodeId, low: Word, high: Word) -> Done
-    ensures { out (built_of result.built) result.budget.units g.new ≡ unsigned_range value.0 (val low) (val high) budget.units g.old }
+pub fn unsigned_range(
+    g: &mut Region,
+    budget: &mut Budget,
+    value: NodeId,
+    low: Word,
+    high: Word,
+) -> Result<NodeId, Unbuilt>
+    ensures { out (built_of result) budget.new.units g.new ≡ unsigned_range value.0 (val low) (val high) budget.old.units g.old }
 {
     match type_at(g, value) {
         ScalarType::Bits(width) if is_testable(width, low, high) => {
             difference_test(g, budget, ScalarType::Bits(width), value, low, high)
         }
-        _ => Done {
-            built: Err(Unbuilt::None),
-            budget,
-        },
+        _ => Err(Unbuilt::None),
     }
 }

@@ -70,8 +70,8 @@ module _ (full : Refusal) (g : List ℕ) (s : ScalarType) (q : Option Interval) 
   tries_added : (c : Call) (n w : ℕ) (r : Rest) → step c g ≡ first_prog (tries (plan.modular n w) r) → is_stop (modular_plan g n w) ≡ true
       → rest_plan g r ≡ plan.add s q p → builder_out full (build c UNITS g) ≡ leaf_out full (inserted g s q p)
   tries_added c n w r f h e =
-      rw (build_step c UNITS g (λ z. omega (arith, z)), f, try_stop n w (UNITS - 1) (λ j. plan_prog (rest_plan j r)) g (λ z. omega (arith, z)) h)
-      (added (rest_plan g r) (UNITS - 1 - 1) e)
+      rw (build_step c UNITS g (λ z. omega (arith, z)), f, try_stop n w (UNITS - 1) (UNITS - 2) (λ j. plan_prog (rest_plan j r)) g refl h)
+      (added (rest_plan g r) (UNITS - 2) e)
 
 -- ---- unary
 

@@ -57,8 +57,8 @@ pub(crate) fn unary(
             return settle(insert(g, kind, range, operation), full);
         }
     }
-    let done = build::unary(g, full_budget(), ty, op, value);
-    settle(done.built, full)
+    let built = build::unary(g, &mut full_budget(), ty, op, value);
+    settle(built, full)
 }
 
 // Is there a masked comparison to try?
@@ -99,8 +99,8 @@ pub(crate) fn binary(
             return settle(insert(g, kind, range, operation), full);
         }
     }
-    let done = build::binary(g, full_budget(), ty, op, left, right);
-    settle(done.built, full)
+    let built = build::binary(g, &mut full_budget(), ty, op, left, right);
+    settle(built, full)
 }
 
 // Does slice decide by its plan alone? The operand is no constant, and no slice from 0 is a truncation pushed through it.
@@ -126,6 +126,6 @@ pub(crate) fn slice(
             return settle(insert(g, kind, range, operation), full);
         }
     }
-    let done = build::slice(g, full_budget(), value, offset, width);
-    settle(done.built, full)
+    let built = build::slice(g, &mut full_budget(), value, offset, width);
+    settle(built, full)
 }

@@ -82,12 +82,12 @@ fn work(g: &mut Region, request: Request, full: Refusal) -> Result<Answer, Refus
         Request::Binary(left, right, ty, op) => direct::binary(g, ty, op, left, right, full),
         Request::Slice(value, offset, width) => direct::slice(g, value, offset as u64, width, full),
         Request::Concat(high, low, low_width, width) => {
-            let done = build::concat(g, full_budget(), high, low, low_width, width);
-            settle(done.built, full)
+            let built = build::concat(g, &mut full_budget(), high, low, low_width, width);
+            settle(built, full)
         }
         Request::UnsignedRange(value, low, high) => {
-            let done = range_test::unsigned_range(g, full_budget(), value, low, high);
-            settle(done.built, full)
+            let built = range_test::unsigned_range(g, &mut full_budget(), value, low, high);
+            settle(built, full)
         }
         Request::Guard(condition, expected) => assume_or_restore(g, condition, expected, full),
         Request::UnnamedLeaf(_) => Err(Refusal::Typing),
