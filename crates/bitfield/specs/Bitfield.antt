@@ -22,8 +22,6 @@ use Rattle.bitfield.specs.declared.BitStep as declared-step
 use Rattle.bitfield.specs.declared.BitStep.TheVariants as step
 use Rattle.bitfield.specs.declared.Field as declared-field
 use Rattle.bitfield.specs.declared.Update as declared-update
-use Rattle.bitfield.specs.declared.PairFold as declared-pair
-use Rattle.bitfield.specs.declared.PairFold.TheVariants as pairs
 
 -- ---- one bit (bitfield.rs 9 to 66)
 
@@ -265,10 +263,10 @@ maybe_update_of (Some u) = Some (one_update_of u)
 maybe_update_of None = None
 
 -- a PairFold
-abbrev pub pair_fold_of : declared-pair.PairFold → PairFold
-pair_fold_of pairs.Next = next
-pair_fold_of pairs.End = end
-pair_fold_of (pairs.Found m) = found (mask_of m)
+abbrev pub pair_fold_of : Option (Option declared-mask.Masked) → PairFold
+pair_fold_of None = next
+pair_fold_of (Some None) = end
+pair_fold_of (Some (Some m)) = found (mask_of m)
 
 -- a Masked that may be there
 abbrev pub maybe_mask_of : Option declared-mask.Masked → Option Mask

@@ -5,7 +5,7 @@ ghost use Rattle.evaluate.specs.Operator.{BINARY};
 ghost use Rattle.graph.specs.Layout.{OPERATION, word_at};
 ghost use Rattle.range.specs.declared.ScalarType.TheVariants as ty;
 ghost use Rattle.fold.specs.Shape.{one_by_constant_of};
-ghost use Rattle.bitfield.specs.Bitfield.{mask_of, maybe_update_of, one_update_of, update_at, pair_fold_of, keeps, changed_bits, fold_update, fold_typed, fold_pair, found_in, maybe_mask_of, fold_masked_comparison};
+ghost use Rattle.bitfield.specs.Bitfield.{mask_of, maybe_update_of, one_update_of, update_at, pair_fold_of, keeps, changed_bits, fold_update, fold_typed, fold_pair, maybe_mask_of, fold_masked_comparison};
 
 use crate::{Masked, PairFold, Update};
 use evaluate::Binary;
@@ -67,9 +67,9 @@ fn fold_update(g: &Region, op: Binary, base: NodeId, width: u16, update: Update)
     let Update { preserved, literal } = update;
     match by_constant_at(g, preserved) {
         Some(shape) if keeps(base, width, literal, shape) => {
-            PairFold::Found(changed_bits(op, base, width, literal, shape))
+            Some(Some(changed_bits(op, base, width, literal, shape)))
         }
-        _ => PairFold::Next,
+        _ => None,
     }
 }
 
@@ -77,11 +77,11 @@ fn fold_pair_of_bits(g: &Region, op: Binary, base: NodeId, updated: NodeId, widt
     ensures { pair_fold_of result ≡ fold_typed g.now op base.0 updated.0 (ty.Bits width) }
 {
     if type_at(g, updated) != ScalarType::Bits(width) {
-        return PairFold::Next;
+        return None;
     }
     match update_at(g, updated) {
         Some(update) => fold_update(g, op, base, width, update),
-        None => PairFold::End,
+        None => Some(None),
     }
 }
 
@@ -92,15 +92,6 @@ fn fold_pair(g: &Region, op: Binary, base: NodeId, updated: NodeId) -> PairFold
 {
     match type_at(g, base) {
         ScalarType::Bits(width) => fold_pair_of_bits(g, op, base, updated, width),
-        _ => PairFold::Next,
-    }
-}
-
-fn found_in(pair: PairFold) -> Option<Masked>
-    ensures { maybe_mask_of result ≡ found_in (pair_fold_of pair) }
-{
-    match pair {
-        PairFold::Found(masked) => Some(masked),
         _ => None,
     }
 }
@@ -119,9 +110,5 @@ pub fn fold_masked_comparison(g: &Region, op: Binary, left: NodeId, right: NodeI
     if is_not_binary(g, left) && is_not_binary(g, right) {
         return None;
     }
-    match fold_pair(g, op, left, right) {
-        PairFold::Next => found_in(fold_pair(g, op, right, left)),
-        PairFold::End => None,
-        PairFold::Found(masked) => Some(masked),
-    }
+    fold_pair(g, op, left, right).or_else(|| fold_pair(g, op, right, left))?
 }

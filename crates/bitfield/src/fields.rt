@@ -3,15 +3,14 @@ ghost use Rattle.std.specs.Prelude.{cond, ◌&&◌, ◌≡◌, eqb};
 ghost use Rattle.std.specs.Int.Bits.{bit_or};
 ghost use Rattle.word.specs.Value.{val};
 ghost use Rattle.fold.specs.Shape.{id_of};
-ghost use Rattle.bitfield.specs.Bitfield.{maybe_bit_of, maybe_field_of, power, same_base, concat_bit, low_fits, fold_bitfield_concat, no_bits, field_from};
+ghost use Rattle.bitfield.specs.Bitfield.{maybe_bit_of, maybe_field_of, power, same_base, concat_bit, fold_bitfield_concat, no_bits, field_from};
 ghost use Rattle.bitfield.specs.Early.{misplaced, ruled_out};
 
 use crate::bits::{DEPTH, bit};
 use crate::{Bit, Concat, Field};
-use fold::shape::{fits, is_narrow};
+use fold::shape::has_no_bits_above;
 use graph::NodeId;
 use graph::layout::Region;
-use graph::read::{range_at, type_at};
 use word::Word;
 
 // The pattern in which one bit is set.
@@ -57,13 +56,6 @@ fn concat_bit(g: &Region, concat: Concat, index: u16) -> Option<Bit>
     }
 }
 
-// Has the low part no bits from its width on?
-fn low_fits(g: &Region, low: NodeId, low_width: u16) -> bool
-    ensures { result ≡ low_fits g.now low.0 low_width }
-{
-    is_narrow(type_at(g, low), low_width) || fits(range_at(g, low), low_width)
-}
-
 fn all_bits(g: &Region, concat: Concat) -> Option<Field>
     ensures { maybe_field_of result ≡ field_from g.now concat.high.0 concat.low.0 concat.low_width 0 concat.width no_bits }
 {
@@ -93,11 +85,7 @@ fn all_bits(g: &Region, concat: Concat) -> Option<Field>
 fn is_misplaced(bit: Option<Bit>, index: u16) -> bool
     ensures { result ≡ misplaced (maybe_bit_of bit) index }
 {
-    match bit {
-        Some(Bit::Known(_)) => false,
-        Some(Bit::Source(_, source)) => source != u64::from(index),
-        None => true,
-    }
+    bit.is_none_or(|found| matches!(found, Bit::Source(_, source) if source != u64::from(index)))
 }
 
 // Does the high part's first bit rule the fold out? It often does, so it is tested before the others.
@@ -113,7 +101,7 @@ fn is_ruled_out(g: &Region, concat: Concat) -> bool
 pub fn fold_bitfield_concat(g: &Region, concat: Concat) -> Option<Field>
     ensures { maybe_field_of result ≡ fold_bitfield_concat g.now concat.high.0 concat.low.0 concat.low_width concat.width }
 {
-    if low_fits(g, concat.low, concat.low_width) && !is_ruled_out(g, concat) {
+    if has_no_bits_above(g, concat.low, concat.low_width) && !is_ruled_out(g, concat) {
         all_bits(g, concat)
     } else {
         None

@@ -68,10 +68,5 @@ pub struct Update {
     pub literal: Word,
 }
 
-// One pair of base and update: the other pair is next, the fold ends, or it is found.
-#[derive(Clone, Copy)]
-pub enum PairFold {
-    Next,
-    End,
-    Found(Masked),
-}
+// One pair of base and update: None where the other pair is next, Some(None) where the fold ends, else what is found.
+pub type PairFold = Option<Option<Masked>>;

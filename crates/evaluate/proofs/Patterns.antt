@@ -1,15 +1,10 @@
 -- The low bits of a word, and counts as u32. Assumes nothing.
-use mathlib.Core.Path.{◌≡◌, refl, sym, ap, ◌∙◌}
+use mathlib.Core.Path.{◌≡◌, sym, ap, ◌∙◌}
 use mathlib.Core.Logic.{⊎_elim}
 use Prim.Native.Nat.{ℕ, min, ◌-◌, ◌%◌, ◌^◌, ◌<◌, ◌≤◌}
 use native.Mathlib.Nat.{le_of_lt, le_trans, lt_of_lt_of_le, min-le_right, min-eq_left, min-eq_right, mod-eq_of_lt}
 use lib.Bits.{bit_and, and_mask}
 use lib.Pow.{pow_mono}
-use Rattle.std.specs.Prelude.{Option, None, Some}
-use Rattle.std.specs.Option.{unwrap_or}
-use Rattle.word.specs.Option.{or_zero}
-use Rattle.word.specs.Value.{val, number_of}
-use Rattle.word.specs.declared.Word.{Word}
 use Rattle.word.proofs.Integer.{lt-or-ge}
 
 -- the low bits by a mask that stops at k bits, of a number of k bits
@@ -24,9 +19,3 @@ masked k w v f =
 -- a count clamped twice, to the lesser bound first
 pub clamped_twice : (n m k : ℕ) → m ≤ k → min (min n m) k ≡ min n m
 clamped_twice n m k h = min-eq_left (le_trans (min-le_right n m) h)
-
--- a word, or 0
-pub or_zero_of : (o : Option Word) → val (unwrap_or o (record { lo = 0; hi = 0 })) ≡ or_zero (number_of o)
-unfolding val
-or_zero_of None = refl
-or_zero_of (Some w) = refl

@@ -29,6 +29,16 @@ all_out a w b h =
 none_left : (a w b : ℕ) → a < 2 ^ w → w ≤ b → a / 2 ^ b ≡ 0
 none_left a w b l h = div-eq_of_lt (lt_of_lt_of_le l (pow_mono h))
 
+-- f, that gives 0 from 128 on, is the checked shift with 0 for None
+or_none : (f : ℕ → ℕ) (n : ℕ) → (128 ≤ n → f n ≡ 0) → f n ≡ or_zero (only (ltb n 128) (f n))
+or_none f n z = ⊎_elim (λ (h : n < 128). rw (lt-ltb n 128 h)) (λ (h : 128 ≤ n). rw (le-ltb n 128 h) (z h)) (lt-or-ge n 128)
+
+pub unbounded_left : (a n : ℕ) → a * 2 ^ n % 2 ^ 128 ≡ or_zero (only (ltb n 128) (a * 2 ^ n % 2 ^ 128))
+unbounded_left a n = or_none (λ k. a * 2 ^ k % 2 ^ 128) n (all_out a 128 n)
+
+pub unbounded_right : (a n : ℕ) → a < 2 ^ 128 → a / 2 ^ n ≡ or_zero (only (ltb n 128) (a / 2 ^ n))
+unbounded_right a n l = or_none (λ k. a / 2 ^ k) n (none_left a 128 n l)
+
 -- f, that gives 0 from 128 on: by the checked shift, with 0 for None
 any_count : (f : ℕ → ℕ) (b : ℕ) → (128 ≤ b → f b ≡ 0) → or_zero (only (ltb (to_u32 b) 128) (f (to_u32 b))) ≡ f b
 any_count f b z =

@@ -123,11 +123,7 @@ pub fn binary_of(code: u64) -> Binary
     ensures { result ≡ binary_of code }
 {
     let place = code.saturating_sub(BINARY) as usize;
-    if place < BINARIES.len() {
-        BINARIES[place]
-    } else {
-        Binary::Add
-    }
+    BINARIES.get(place).copied().unwrap_or(Binary::Add)
 }
 
 // Is this a unary operator's code, with a parameter that it takes?

@@ -13,7 +13,7 @@ use word::{Signed, Word};
 pub fn pattern_of(answer: Option<Signed>) -> Option<Word>
     ensures { number_of result ≡ mapped i128.as_u128 (value_of answer) }
 {
-    Some(answer?.as_word())
+    answer.map(|value| value.as_word())
 }
 
 // The low bits of a pattern: Rust's `value & mask(width)`.

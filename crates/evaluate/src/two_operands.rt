@@ -21,13 +21,13 @@ fn is_integer(ty: ScalarType) -> bool
 fn shift_left(a: Word, b: Word) -> Word
     ensures { val result ≡ shifted_left (val a) (val b) }
 {
-    a.checked_shl(to_u32(b)).unwrap_or(Word::ZERO)
+    a.unbounded_shl(to_u32(b))
 }
 
 fn shift_right(a: Word, b: Word) -> Word
     ensures { val result ≡ shifted_right (val a) (val b) }
 {
-    a.checked_shr(to_u32(b)).unwrap_or(Word::ZERO)
+    a.unbounded_shr(to_u32(b))
 }
 
 // A field of that width shifted, with copies of its top bit coming in.
@@ -88,7 +88,7 @@ fn unreduced(operation: Binary, ty: ScalarType, a: Word, b: Word) -> Option<Word
 pub fn binary_value(operation: Binary, ty: ScalarType, a: Word, b: Word) -> Option<Word>
     ensures { number_of result ≡ binary_value operation ty (val a) (val b) }
 {
-    Some(reduced(ty, unreduced(operation, ty, a, b)?))
+    unreduced(operation, ty, a, b).map(|value| reduced(ty, value))
 }
 
 #[tactic(auto, unfolding(crate::specs::Answer::evaluate_binary))]

@@ -33,6 +33,12 @@ narrow_type ty.Bool w = false
 narrow_type (ty.Bits v) w = leb v w
 narrow_type ty.Integer w = false
 
+-- is it Integer, or Bits of at least that width?
+abbrev pub is_wide : ScalarType → ℕ → Bool
+is_wide ty.Bool w = false
+is_wide (ty.Bits v) w = leb w v
+is_wide ty.Integer w = true
+
 -- are two operators the same?
 abbrev pub same_binary : Binary → Binary → Bool
 same_binary a b = eqb (binary_code a) (binary_code b)

@@ -19,7 +19,7 @@ fn equal_ranges(a: Range, b: Range) -> Option<bool>
     if a.min == a.max && a == b {
         return Some(true);
     }
-    if apart(a, b) { Some(false) } else { None }
+    apart(a, b).then_some(false)
 }
 
 fn less_ranges(a: Range, b: Range) -> Option<bool>
@@ -28,7 +28,7 @@ fn less_ranges(a: Range, b: Range) -> Option<bool>
     if a.max < b.min {
         return Some(true);
     }
-    if b.max <= a.min { Some(false) } else { None }
+    (b.max <= a.min).then_some(false)
 }
 
 fn less_equal_ranges(a: Range, b: Range) -> Option<bool>
@@ -37,7 +37,7 @@ fn less_equal_ranges(a: Range, b: Range) -> Option<bool>
     if a.max <= b.min {
         return Some(true);
     }
-    if b.max < a.min { Some(false) } else { None }
+    (b.max < a.min).then_some(false)
 }
 
 // Are both not negative, so that unsigned and signed order are one?

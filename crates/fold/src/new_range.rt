@@ -8,7 +8,7 @@ use evaluate::{Binary, Unary};
 use range::typed::type_range;
 use range::{Range, ScalarType};
 
-// The range of a new node, which may have none; None where the builder answers none.
+// The range of a new node. The outer None: the builder makes no node and answers none. The inner one: a node without a range.
 pub type Derived = Option<Option<Range>>;
 
 fn extended_range(ty: ScalarType, width: u16) -> Option<Range>
@@ -25,7 +25,7 @@ pub fn unary_range(ty: ScalarType, op: Unary, range: Option<Range>) -> Derived
     ensures { derived_of result ≡ unary_range ty op (interval_of range) }
 {
     match op {
-        Unary::Negate => Some(Some(range?.negate()?)),
+        Unary::Negate => range?.negate().map(Some),
         Unary::SignExtend(width) => Some(extended_range(ty, width)),
         _ => Some(type_range(ty)),
     }
@@ -94,6 +94,6 @@ pub fn binary_range(
     match ty {
         ScalarType::Bool => Some(type_range(ty)),
         ScalarType::Bits(width) => Some(refined(width, op, left, right).or_else(|| type_range(ty))),
-        ScalarType::Integer => Some(Some(integer_range(op, left, right)?)),
+        ScalarType::Integer => integer_range(op, left, right).map(Some),
     }
 }

@@ -1,11 +1,12 @@
 // What the folds read off nodes: types and ranges that fit, and the shapes that they look for.
-ghost use Rattle.std.specs.Prelude.{◌≡◌};
+ghost use Rattle.std.specs.Prelude.{◌≡◌, ◌||◌};
 ghost use Rattle.range.specs.Interval.{interval_of};
-ghost use Rattle.fold.specs.Shape.{narrow_type, not_negative, fits, maybe_by_constant_of, by_constant_at, id_of, refined_at, origin};
+ghost use Rattle.graph.specs.Node.{type_at, range_at};
+ghost use Rattle.fold.specs.Shape.{narrow_type, is_wide, not_negative, fits, maybe_by_constant_of, by_constant_at, id_of, refined_at, origin};
 
 use crate::ByConstant;
 use graph::layout::Region;
-use graph::read::{literal, operation_at};
+use graph::read::{literal, operation_at, range_at, type_at};
 use graph::walk::walk;
 use graph::{NodeId, Operation};
 use range::{Range, ScalarType};
@@ -15,6 +16,17 @@ pub fn is_narrow(ty: ScalarType, width: u16) -> bool
     ensures { result ≡ narrow_type ty width }
 {
     matches!(ty, ScalarType::Bits(actual) if actual <= width)
+}
+
+// Is it Integer, or Bits of at least that width?
+pub fn is_wide(ty: ScalarType, width: u16) -> bool
+    ensures { result ≡ is_wide ty width }
+{
+    match ty {
+        ScalarType::Bool => false,
+        ScalarType::Bits(actual) => width <= actual,
+        ScalarType::Integer => true,
+    }
 }
 
 pub fn is_not_negative(range: Option<Range>) -> bool
@@ -28,6 +40,13 @@ pub fn fits(range: Option<Range>, width: u16) -> bool
     ensures { result ≡ fits width (interval_of range) }
 {
     range.is_some_and(|bounds| bounds.is_in_bits(width))
+}
+
+// Has the node no bits from that width on, by its type or by its range?
+pub fn has_no_bits_above(g: &Region, id: NodeId, width: u16) -> bool
+    ensures { result ≡ (narrow_type (type_at g.now id.0) width || fits width (range_at g.now id.0)) }
+{
+    is_narrow(type_at(g, id), width) || fits(range_at(g, id), width)
 }
 
 // The node, if it is a binary operation whose right operand is a constant.

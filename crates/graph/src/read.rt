@@ -36,10 +36,7 @@ pub fn range_of(flag: u64, min: Word, max: Word) -> Option<Range>
     if flag == 0 {
         return None;
     }
-    Some(Range {
-        min: min.as_signed(),
-        max: max.as_signed(),
-    })
+    Some(Range::of_patterns(min, max))
 }
 
 // The operation of a code and its three fields; an unknown code below BINARY is taken for BoolNot, another for Add.

@@ -31,10 +31,7 @@ fn is_range(code: u64, width: u64, flag: u64, min: Word, max: Word) -> bool
     match flag {
         0 => min.is_zero() && max.is_zero(),
         1 => {
-            let range = Range {
-                min: min.as_signed(),
-                max: max.as_signed(),
-            };
+            let range = Range::of_patterns(min, max);
             range.min <= range.max && range.is_inside(type_of(code, width))
         }
         _ => false,

@@ -1,5 +1,5 @@
 -- The plans of identity, unary and modular.
-use Rattle.std.specs.Prelude.{Bool, true, false, cond, ◌&&◌, ◌||◌, List, ℕ, zero, suc, ◌-◌, eqb, ltb, leb}
+use Rattle.std.specs.Prelude.{Bool, false, cond, ◌&&◌, ◌||◌, List, ℕ, zero, suc, ◌-◌, eqb, ltb, leb}
 use Rattle.std.specs.Prelude.{Option, None, Some}
 use Rattle.word.specs.Option.{given}
 use Rattle.range.specs.Interval.{Interval}
@@ -14,7 +14,7 @@ use Rattle.graph.specs.Node as node
 use Rattle.graph.specs.Node.{Op, type_at, range_at, operation_at}
 use Rattle.graph.specs.Insert.{literal, resolve}
 use Rattle.fold.specs.Operator.{modular_ops}
-use Rattle.fold.specs.Shape.{same_type, is_any, not_negative, fits, refined_at}
+use Rattle.fold.specs.Shape.{same_type, is_wide, is_any, not_negative, fits, refined_at}
 use Rattle.fold.specs.Range.{ranged_at, stored_range}
 use Rattle.plan.specs.Plan as plan
 use Rattle.plan.specs.Plan.{Plan, First, does, tries, unary_rest, constant_or}
@@ -96,12 +96,6 @@ abbrev pub view_of : declared.View → View
 view_of (view.Same i) = same i.0
 view_of (view.Source i) = source i.0
 
--- Integer, or Bits of at least that width: a narrower reduction has to stay visible
-abbrev pub is_wide : ScalarType → ℕ → Bool
-is_wide ty.Bool w = false
-is_wide (ty.Bits v) w = leb w v
-is_wide ty.Integer w = true
-
 -- an operation truncated: its operands are
 abbrev pub truncated_plan : ℕ → Op → Plan
 truncated_plan w (node.constant c) = plan.stop
@@ -113,7 +107,7 @@ truncated_plan w (node.concat i j v) = plan.stop
 truncated_plan w (node.unary u i) = plan.stop
 truncated_plan w (node.binary o i j) = cond (is_any modular_ops o) (plan.truncated w o i j) plan.stop
 
--- a view of that type is resolved, an operation of a wide type truncated
+-- a view of that type is resolved, an operation of a wide type truncated: a narrower reduction has to stay visible
 abbrev pub modular_of : List ℕ → ℕ → View → Plan
 modular_of g w (same p) = plan.give (resolve g p)
 modular_of g w (source s) = cond (is_wide (type_at g s) w) (truncated_plan w (operation_at g s)) plan.stop

@@ -5,14 +5,14 @@ ghost use Rattle.word.specs.Value.{number_of};
 ghost use Rattle.graph.specs.Node.{op_of};
 ghost use Rattle.plan.specs.Plan.{plan_of, first_of, constant_or, is_stop};
 ghost use Rattle.fold.specs.Range.{derived_of};
-ghost use Rattle.plan.specs.OneOperand.{view_plan, identity_plan, is_reduction, is_view, add_or, unary_plan, unary_open, unary_first, view_at, view_of, is_wide, truncated_plan, modular_plan};
+ghost use Rattle.plan.specs.OneOperand.{view_plan, identity_plan, is_reduction, is_view, add_or, unary_plan, unary_open, unary_first, view_at, view_of, truncated_plan, modular_plan};
 
 use crate::{Attempt, First, Plan, Rest, View};
 use evaluate::Unary;
 use evaluate::one_operand::unary_value;
 use fold::new_range::unary_range;
 use fold::operator::is_modular;
-use fold::shape::{fits, is_not_negative, refined_at};
+use fold::shape::{fits, is_not_negative, is_wide, refined_at};
 use graph::layout::Region;
 use graph::read::{literal, operation_at, range_at, resolve, type_at};
 use graph::walk::walk;
@@ -104,10 +104,10 @@ fn unary_open(g: &Region, ty: ScalarType, op: Unary, value: NodeId) -> First
 pub fn unary_first(g: &Region, ty: ScalarType, op: Unary, value: NodeId) -> First
     ensures { first_of result ≡ unary_first g.now ty op value.0 }
 {
-    match literal(g, value) {
-        Some(constant) => First::Do(constant_or_none(ty, unary_value(op, constant))),
-        None => unary_open(g, ty, op, value),
-    }
+    literal(g, value).map_or_else(
+        || unary_open(g, ty, op, value),
+        |constant| First::Do(constant_or_none(ty, unary_value(op, constant))),
+    )
 }
 
 // Down a chain of Refines to the first source of the type, or to where the chain starts.
@@ -127,17 +127,6 @@ fn view_at(g: &Region, ty: ScalarType, id: NodeId) -> View
     })
 }
 
-// Integer, or Bits of at least that width: a narrower reduction has to stay visible.
-fn is_wide(ty: ScalarType, width: u16) -> bool
-    ensures { result ≡ is_wide ty width }
-{
-    match ty {
-        ScalarType::Bool => false,
-        ScalarType::Bits(actual) => width <= actual,
-        ScalarType::Integer => true,
-    }
-}
-
 fn truncated_plan(width: u16, operation: Operation) -> Plan
     ensures { plan_of result ≡ truncated_plan width (op_of operation) }
 {
@@ -155,6 +144,7 @@ pub fn modular_plan(g: &Region, value: NodeId, width: u16) -> Plan
 {
     match view_at(g, ScalarType::Bits(width), value) {
         View::Same(previous) => Plan::Give(resolve(g, previous)),
+        // A narrower reduction has to stay visible.
         View::Source(source) if is_wide(type_at(g, source), width) => {
             truncated_plan(width, operation_at(g, source))
         }

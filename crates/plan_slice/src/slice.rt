@@ -25,11 +25,7 @@ use word::Word;
 fn lowered(value: Word, offset: u64) -> Word
     ensures { val result ≡ lowered (val value) offset }
 {
-    if offset < 128 {
-        value.unbounded_shr(offset as u32)
-    } else {
-        Word::ZERO
-    }
+    value.unbounded_shr(offset.min(128) as u32)
 }
 
 // A range that is not negative may say that the bits are 0, or at offset 0 that the value fits.
@@ -144,13 +140,10 @@ fn slice_open(g: &Region, value: NodeId, offset: u64, width: u16) -> First
 pub fn slice_first(g: &Region, value: NodeId, offset: u64, width: u16) -> First
     ensures { first_of result ≡ slice_first g.now value.0 offset width }
 {
-    match literal(g, value) {
-        Some(constant) => First::Do(Plan::Constant(
-            lowered(constant, offset),
-            ScalarType::Bits(width),
-        )),
-        None => slice_open(g, value, offset, width),
-    }
+    literal(g, value).map_or_else(
+        || slice_open(g, value, offset, width),
+        |constant| First::Do(Plan::Constant(lowered(constant, offset), ScalarType::Bits(width))),
+    )
 }
 
 // concat after the bitfield fold: a node.
@@ -168,11 +161,11 @@ pub fn concat_plan(concat: Concat) -> Plan
 }
 
 // The constants of both parts side by side.
-#[tactic(auto, unfolding(word::specs::Value::val))]
+#[tactic(auto, using(evaluate::proofs::Shifts::unbounded_left))]
 fn joined(high: Word, low: Word, low_width: u16) -> Word
     ensures { val result ≡ joined (val high) (val low) low_width }
 {
-    high.checked_shl(u32::from(low_width)).unwrap_or(Word::ZERO) | low
+    high.unbounded_shl(u32::from(low_width)) | low
 }
 
 fn joined_plan(high: Option<Word>, low: Option<Word>, low_width: u16, width: u16) -> Option<Plan>
@@ -237,10 +230,10 @@ fn field_plan(g: &Region, concat: Concat, field: Field) -> First
 fn concat_field(g: &Region, concat: Concat) -> First
     ensures { first_of result ≡ concat_field g.now concat.high.0 concat.low.0 concat.low_width concat.width }
 {
-    match fold_bitfield_concat(g, concat) {
-        Some(field) => field_plan(g, concat, field),
-        None => First::Do(concat_plan(concat)),
-    }
+    fold_bitfield_concat(g, concat).map_or_else(
+        || First::Do(concat_plan(concat)),
+        |field| field_plan(g, concat, field),
+    )
 }
 
 fn concat_open(g: &Region, concat: Concat) -> First
@@ -248,10 +241,10 @@ fn concat_open(g: &Region, concat: Concat) -> First
 {
     let high = operation_at(g, concat.high);
     let low = operation_at(g, concat.low);
-    match adjacent(high, low, concat.low_width, concat.width) {
-        Some(plan) => First::Do(plan),
-        None => concat_field(g, concat),
-    }
+    adjacent(high, low, concat.low_width, concat.width).map_or_else(
+        || concat_field(g, concat),
+        First::Do,
+    )
 }
 
 #[tactic(auto, unfolding(crate::specs::Slice::concat_first))]
@@ -270,8 +263,8 @@ pub fn concat_first(g: &Region, concat: Concat) -> First
     if low_width == 0 {
         return First::Do(Plan::Slice(high, 0, width));
     }
-    match joined_plan(literal(g, high), literal(g, low), low_width, width) {
-        Some(plan) => First::Do(plan),
-        None => concat_open(g, concat),
-    }
+    joined_plan(literal(g, high), literal(g, low), low_width, width).map_or_else(
+        || concat_open(g, concat),
+        First::Do,
+    )
 }

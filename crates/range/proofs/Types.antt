@@ -40,8 +40,8 @@ high_ones w h b =
     rw (one_raised w, min-eq_left (le_of_lt h)) (sym (ones_split (w % 64) 64) ∙ ap (λ (n : ℕ). 2 ^ n - 1) e)
 
 -- a mask of fewer than 128 bits, read signed
-pub mask-signed : (w : ℕ) → w < 128 → {n : ℕ} → n ≡ 2 ^ min w 128 - 1 → signed 128 n ≡ pos (2 ^ w - 1)
-mask-signed w h e =
+pub mask_signed : (w : ℕ) → w < 128 → {n : ℕ} → n ≡ 2 ^ min w 128 - 1 → signed 128 n ≡ pos (2 ^ w - 1)
+mask_signed w h e =
     let l : w ≤ 127 = omega arith in
     rw (e, min-eq_left (le_of_lt h)) (signed_low 128 (2 ^ w - 1) (lt_of_lt_of_le (ones_lt w) (pow_mono l)))
 

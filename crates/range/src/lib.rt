@@ -6,10 +6,10 @@ pub mod corners;
 pub mod typed;
 
 ghost use Rattle.std.specs.Prelude.{◌≡◌};
-ghost use Rattle.word.specs.Value.{int_of};
+ghost use Rattle.word.specs.Value.{val, int_of, signed};
 ghost use Rattle.range.specs.Interval.{bounds_of, point, within, nonnegative};
 
-use word::Signed;
+use word::{Signed, Word};
 
 #[derive(Clone, Copy, PartialEq, Eq)]
 pub enum ScalarType {
@@ -32,6 +32,17 @@ impl Range {
         Range {
             min: value,
             max: value,
+        }
+    }
+
+    // The range between the integers of two patterns.
+    pub fn of_patterns(min: Word, max: Word) -> Range
+        ensures low { int_of result.min ≡ signed 128 (val min) }
+        ensures high { int_of result.max ≡ signed 128 (val max) }
+    {
+        Range {
+            min: min.as_signed(),
+            max: max.as_signed(),
         }
     }
 

@@ -28,17 +28,14 @@ pub fn mask(width: u16) -> Word
 }
 
 // From 0 to the largest number of that many bits.
+#[tactic(auto, using(crate::proofs::Types::mask_signed), unfolding(crate::specs::Interval::bits_interval, word::specs::Value::int_of))]
 fn bits_range(width: u16) -> Option<Range>
     ensures { interval_of result ≡ bits_interval width }
 {
-    if width < 128 {
-        Some(Range {
-            min: Signed::ZERO,
-            max: mask(width).as_signed(),
-        })
-    } else {
-        None
-    }
+    (width < 128).then(|| Range {
+        min: Signed::ZERO,
+        max: mask(width).as_signed(),
+    })
 }
 
 #[tactic(auto, unfolding(word::specs::Value::int_of))]
@@ -75,14 +72,11 @@ impl Range {
     }
 
     // The range as that of a result in Bits(width), where it lies inside the type.
+    #[tactic(auto, using(crate::proofs::Types::filtered_by))]
     pub fn filtered(self, width: u16) -> Option<Range>
         ensures { interval_of result ≡ filtered width (bounds_of self) }
     {
-        if width < 128 && self.is_in_bits(width) {
-            Some(self)
-        } else {
-            None
-        }
+        (width < 128 && self.is_in_bits(width)).then_some(self)
     }
 
     // What an Integer sign-extended from Bits(width) can be.

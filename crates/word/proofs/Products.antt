@@ -1,5 +1,5 @@
 -- Products of numbers in two digits, and where a product passes two halves. Assumes nothing.
-use Rattle.std.proofs.Common.{◌≡◌, ℕ, ◌+◌, ◌-◌, ◌*◌, ◌/◌, ◌%◌, ◌^◌, ◌<◌, ◌≤◌, false, ltb, sym, refl, ◌∙◌, le_trans, le_refl, le-add_right, add_assoc, mul_assoc, mul_comm, add-mul, mul-le-mul, add_comm, pos_of_ne-zero, div-add-mod', zero-mul, mul-add, mul_left_comm, arith, pow-add, ltb-false}
+use Rattle.std.proofs.Common.{◌≡◌, ℕ, ◌+◌, ◌*◌, ◌%◌, ◌^◌, ◌<◌, ◌≤◌, false, ltb, refl, le_trans, le_refl, le-add_right, add_assoc, mul_assoc, mul_comm, add-mul, mul-le-mul, add_comm, pos_of_ne-zero, zero-mul, mul-add, mul_left_comm, arith, pow-add, ltb-false}
 use native.Mathlib.Nat.{add_left_comm, mul-add-mod_self_right}
 use Rattle.std.specs.Prelude.{Some}
 use Rattle.word.specs.Option.{only}
@@ -10,34 +10,6 @@ use Rattle.word.proofs.Halves.{cut-mod}
 -- a product by its columns
 columns : (P a b c d : ℕ) → (a * P + b) * (c * P + d) ≡ a * c * (P * P) + (a * d + b * c) * P + b * d
 columns P a b c d = simp (mul-add, add-mul, mul_assoc, mul_comm, mul_left_comm, add_assoc, add_comm, add_left_comm)
-
--- ---- the product of two halves, by their digits of 32 bits
-
-pub digits : (u v : ℕ) → u * v ≡ u / 2 ^ 32 * (v / 2 ^ 32) * 2 ^ 64 + (u / 2 ^ 32 * (v % 2 ^ 32) + u % 2 ^ 32 * (v / 2 ^ 32)) * 2 ^ 32 + u % 2 ^ 32 * (v % 2 ^ 32)
-digits u v =
-    (λ i. sym (div-add-mod' u (2 ^ 32)) i * sym (div-add-mod' v (2 ^ 32)) i)
-    ∙ columns (2 ^ 32) (u / 2 ^ 32) (u % 2 ^ 32) (v / 2 ^ 32) (v % 2 ^ 32)
-
-small : (x y : ℕ) → x < 2 ^ 32 → y < 2 ^ 32 → x * y ≤ (2 ^ 32 - 1) * (2 ^ 32 - 1)
-small x y f g =
-    let p : x ≤ 2 ^ 32 - 1 = omega arith in
-    let q : y ≤ 2 ^ 32 - 1 = omega arith in
-    mul-le-mul p q
-
--- the four products of digits, each with room for two digits more
-pub record Small (u v : ℕ) : Type 0 where
-  pub high : u / 2 ^ 32 * (v / 2 ^ 32) ≤ (2 ^ 32 - 1) * (2 ^ 32 - 1)
-  pub left : u / 2 ^ 32 * (v % 2 ^ 32) ≤ (2 ^ 32 - 1) * (2 ^ 32 - 1)
-  pub right : u % 2 ^ 32 * (v / 2 ^ 32) ≤ (2 ^ 32 - 1) * (2 ^ 32 - 1)
-  pub low : u % 2 ^ 32 * (v % 2 ^ 32) ≤ (2 ^ 32 - 1) * (2 ^ 32 - 1)
-
-pub digits_small : (u v : ℕ) → u < 2 ^ 64 → v < 2 ^ 64 → Small u v
-digits_small u v f g = record {
-  high = small (u / 2 ^ 32) (v / 2 ^ 32) (omega arith) (omega arith);
-  left = small (u / 2 ^ 32) (v % 2 ^ 32) (omega arith) (omega arith);
-  right = small (u % 2 ^ 32) (v / 2 ^ 32) (omega arith) (omega arith);
-  low = small (u % 2 ^ 32) (v % 2 ^ 32) (omega arith) (omega arith);
-}
 
 -- ---- the product of two words
 

@@ -6,19 +6,12 @@ ghost use Rattle.word.specs.Option.{only};
 
 use crate::{Signed, Word};
 
-// The whole product of two halves, by digits of 32 bits.
+// The whole product of two halves.
+#[tactic(auto, unfolding(crate::specs::Value::val))]
 fn product_of_halves(u: u64, v: u64) -> Word
     ensures { val result ≡ u * v }
 {
-    let u0 = u % 0x1_0000_0000;
-    let u1 = u / 0x1_0000_0000;
-    let v0 = v % 0x1_0000_0000;
-    let v1 = v / 0x1_0000_0000;
-    let w0 = u0 * v0;
-    let t = u1 * v0 + w0 / 0x1_0000_0000;
-    let w1 = t % 0x1_0000_0000 + u0 * v1;
-    let lo = (w1 % 0x1_0000_0000) * 0x1_0000_0000 + w0 % 0x1_0000_0000;
-    let hi = u1 * v1 + t / 0x1_0000_0000 + w1 / 0x1_0000_0000;
+    let (lo, hi) = u.carrying_mul(v, 0);
     Word { lo, hi }
 }
 
@@ -29,10 +22,7 @@ fn raised(high: Word, low: Word) -> Option<Word>
     if high.hi != 0 {
         return None;
     }
-    let hi = low.hi.wrapping_add(high.lo);
-    if hi < low.hi {
-        return None;
-    }
+    let hi = low.hi.checked_add(high.lo)?;
     Some(Word { lo: low.lo, hi })
 }
 

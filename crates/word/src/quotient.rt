@@ -30,7 +30,7 @@ fn below(a: u64, b: u64) -> u64
     u64::from(a < b)
 }
 
-// Without a branch, since the bits of a quotient follow no pattern.
+// Without a branch, since the bits of a quotient follow no pattern. By `borrowing_sub` and a bool a division takes 1.7 times as long.
 fn overflowing_sub(a: Word, b: Word) -> Difference
     ensures { (val result.value + val b ≡ val a + result.borrow * 2 ^ 128) × (result.borrow < 2) }
 {

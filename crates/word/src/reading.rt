@@ -5,6 +5,7 @@ ghost use Rattle.word.specs.Option.{from_bool};
 
 use crate::{Signed, Word};
 
+// From u64 alone: with From<u16> and From<u32> beside it each literal, as in `Word::from(128)`, would have to name its type.
 impl From<u64> for Word {
     ghost from_gives = { λ n w. val w ≡ n };
 

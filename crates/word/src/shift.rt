@@ -56,21 +56,13 @@ impl Word {
     pub fn checked_shl(self, amount: u32) -> Option<Word>
         ensures { number_of result ≡ only (nat_lt amount 128) (val self * 2 ^ amount % 2 ^ 128) }
     {
-        if amount < 128 {
-            Some(self.unbounded_shl(amount))
-        } else {
-            None
-        }
+        (amount < 128).then(|| self.unbounded_shl(amount))
     }
 
     pub fn checked_shr(self, amount: u32) -> Option<Word>
         ensures { number_of result ≡ only (nat_lt amount 128) (val self / 2 ^ amount) }
     {
-        if amount < 128 {
-            Some(self.unbounded_shr(amount))
-        } else {
-            None
-        }
+        (amount < 128).then(|| self.unbounded_shr(amount))
     }
 
     // Bit `index`, 0 from 128 on.

@@ -1,4 +1,4 @@
-// Sums and differences: low halves wrap, and the carry is found by comparing.
+// Sums and differences: low halves wrap, and the carry is found by comparing, not by `carrying_add` or a u128: docs/DECISIONS.md, 'Two halves stay'.
 ghost use Rattle.std.specs.Prelude.{◌≡◌, ◌+◌, ◌-◌, ◌%◌, ◌^◌, pos, ◌+ℤ◌, ◌-ℤ◌, neg_ℤ, unsigned_abs};
 ghost use Rattle.word.specs.Value.{val, int_of, wrapped, fitted, value_of};
 ghost use Rattle.word.specs.Step.{unless_wrapped};

@@ -5,6 +5,6 @@ use Rattle.bitfield.specs.Bitfield.{fold_bitfield_concat}
 use Rattle.bitfield.proofs.Laws.{ruled-out}
 use Rattle.bitfield.proofs.fields.fold_bitfield_concat.Goals as goal
 
-pub returns-else-low_fits : goal.returns-else-low_fits
+pub returns-else-has_no_bits_above : goal.returns-else-has_no_bits_above
 unfolding fold_bitfield_concat
-returns-else-low_fits c = grind (arith, common_steps, ruled-out)
+returns-else-has_no_bits_above c = grind (arith, common_steps, ruled-out)

@@ -1,8 +1,11 @@
 -- `shift_right` meets its contract.
+use Rattle.std.proofs.Common.{rules}
 use Rattle.word.specs.Value.{val}
-use Rattle.evaluate.proofs.Patterns.{or_zero_of}
-use mathlib.Core.Path.{ap, ◌∙◌}
+use Rattle.word.proofs.Halves.{val-lt}
+use Rattle.evaluate.proofs.Shifts.{unbounded_right}
+use mathlib.Core.Path.{◌∙◌}
 use Rattle.evaluate.proofs.two_operands.shift_right.Goals as goal
 
 pub returns : goal.returns
-returns c = simp (← c.to_u32.ensures, ← c.checked_shr.ensures) (ap val c.unwrap_or.ensures ∙ or_zero_of c.checked_shr.result)
+returns c = rw (← c.to_u32.ensures)
+    (c.unbounded_shr.ensures ∙ unbounded_right (val c.args.a) c.to_u32.result (val-lt c.args.a (search rules) (search rules)))

@@ -1,5 +1,5 @@
 -- `Range::sign_extended` meets its contract: the mask of one bit less, and its complement.
-use Rattle.range.proofs.Types.{mask-signed, mask_complement}
+use Rattle.range.proofs.Types.{mask_signed, mask_complement}
 use Rattle.range.specs.Interval.{sign_extended}
 use borrow.Author.Tests.{lt-ltb, le-ltb}
 use native.Mathlib.Omega.{arith}
@@ -20,4 +20,4 @@ unfolding sign_extended
 returns c = let n = c.args.width in
     let h : n < 128 = c.if-width-ge128.false in
     let l : n - 1 < 128 = omega arith in
-    rw (lt-ltb 0 n (omega arith), lt-ltb n 128 h, c.not.ensures, c.as_signed-max.ensures, mask-signed (n - 1) l c.mask.ensures, mask_complement (n - 1))
+    rw (lt-ltb 0 n (omega arith), lt-ltb n 128 h, c.not.ensures, c.as_signed-max.ensures, mask_signed (n - 1) l c.mask.ensures, mask_complement (n - 1))

@@ -1,5 +1,5 @@
 -- `raised` meets its contract: the sum fits where `high` has a low half only and the high halves' sum does not wrap. Assumes nothing.
-use Rattle.std.proofs.Common.{◌≡◌, ◌+◌, ◌*◌, ◌%◌, ◌^◌, arith, rules, le-ltb, lt-ltb}
+use Rattle.std.proofs.Common.{◌≡◌, ◌+◌, ◌*◌, ◌^◌, arith, rules, le-ltb, lt-ltb}
 use Rattle.word.specs.Value.{val}
 use Rattle.word.specs.declared.Word.{Word}
 use Rattle.word.proofs.Halves.{val-lt}
@@ -12,18 +12,18 @@ returns-then-high-ne0 c =
     let g = c.args in
     rw (le-ltb _ _ (past_raise 64 (val g.high) g.low.hi g.low.lo (omega (arith, high_set g.high c.if-high-ne0.true))))
 
-pub returns-then-hi-low : goal.returns-then-hi-low
+pub returns-in_err-hi : goal.returns-in_err-hi
 unfolding val
-returns-then-hi-low c =
+returns-in_err-hi c =
     let g = c.args in
-    rw (le-ltb _ _ (past_raise 64 (val g.high) g.low.hi g.low.lo (omega arith)))
+    rw (c.from_residual.ensures, le-ltb _ _ (past_raise 64 (val g.high) g.low.hi g.low.lo (omega (arith, c.in_err-hi.ensures))))
 
 pub returns : goal.returns
 unfolding val
 returns c =
     let g = c.args in
-    let sum : Word = record { lo = g.low.lo; hi = (g.low.hi + g.high.lo) % 2 ^ 64 } in
-    let h : sum.hi ≡ g.low.hi + g.high.lo = omega arith in
+    let sum : Word = record { lo = g.low.lo; hi = c.in_ok-hi.hi } in
+    let h : sum.hi ≡ g.low.hi + g.high.lo = c.in_ok-hi.ensures.1 in
     let e : val g.high * 2 ^ 64 + val g.low ≡ val sum =
     rw (low_only g.high c.if-high-ne0.false, h) (raise (2 ^ 64) g.high.lo g.low.hi g.low.lo) in
-    rw (e, lt-ltb _ _ (val-lt sum (search rules) (search rules)))
+    rw (e, lt-ltb _ _ (val-lt sum (omega (arith, c.in_ok-hi.ensures)) (search rules)))

@@ -1,6 +1,5 @@
 -- `cmp` meets its contract: the high halves decide, as signed numbers, then the low ones.
-use Rattle.std.proofs.Common.{w64, rules}
-use mir.ValLaws.{to_z-of_z}
+use Rattle.std.proofs.Common.{rules}
 use Rattle.word.proofs.Compared.{cmp_signed}
 use Rattle.word.proofs.SignedHalves.{Held}
 use Rattle.word.proofs.order.SignedOrd.cmp.Goals as goal
@@ -11,4 +10,4 @@ returns c =
     let b = c.args.other.now in
     let f : Held a = record { half = search rules; low = search rules } in
     let g : Held b = record { half = search rules; low = search rules } in
-    rw (← cmp_signed a b f g, c.cmp.ensures, to_z-of_z w64 a.hi f.half, to_z-of_z w64 b.hi g.half)
+    rw (← cmp_signed a b f g, c.cmp.ensures, c.halves.ensures.0, c.halves-2.ensures.0, c.halves.ensures.1, c.halves-2.ensures.1)
