@@ -35,14 +35,7 @@ fn undone_bits(width: u16, op: Binary, offset: Word, value: Signed) -> Word
 fn ordered(a: Word, b: Word) -> Option<Range>
     ensures { interval_of result ≡ ordered (val a) (val b) }
 {
-    if a <= b {
-        Some(Range {
-            min: a.as_signed(),
-            max: b.as_signed(),
-        })
-    } else {
-        None
-    }
+    (a <= b).then(|| Range::of_patterns(a, b))
 }
 
 fn undone_integer(op: Binary, offset: Signed, value: Signed) -> Option<Signed>

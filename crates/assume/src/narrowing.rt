@@ -18,10 +18,7 @@ fn narrows_at(g: &Region, node: NodeId, limits: Limits) -> bool
     ensures { result ≡ narrows_at g.now node.0 (limits_of limits) }
 {
     let target = resolve(g, node);
-    let Some(old) = range_at(g, target) else {
-        return false;
-    };
-    narrows(type_at(g, target), old, meet(old, limits))
+    range_at(g, target).is_some_and(|old| narrows(type_at(g, target), old, meet(old, limits)))
 }
 
 // Both operands of a condition, which are resolved, and their limits by the ranges that they have.
@@ -35,30 +32,19 @@ pub(crate) fn sides(g: &Region, condition: NodeId, expected: bool) -> Option<Sid
     let right = resolve(g, right);
     let a = range_at(g, left)?;
     let b = range_at(g, right)?;
-    if comparable(op, a, b) {
-        Some(Sides {
-            left,
-            right,
-            limits: limits_by(op, expected, a, b),
-        })
-    } else {
-        None
-    }
+    comparable(op, a, b).then(|| Sides {
+        left,
+        right,
+        limits: limits_by(op, expected, a, b),
+    })
 }
 
 // A condition, which is not resolved.
+#[tactic(auto, using(crate::proofs::Both::narrowing_sides), unfolding(crate::specs::Narrowing::narrows_either))]
 pub fn is_narrowing(g: &Region, condition: NodeId, expected: bool) -> bool
     ensures { result ≡ is_narrowing g.now condition.0 expected }
 {
-    let Some(
-        Sides {
-            left,
-            right,
-            limits,
-        },
-    ) = sides(g, condition, expected)
-    else {
-        return false;
-    };
-    narrows_at(g, left, limits.left) || narrows_at(g, right, limits.right)
+    sides(g, condition, expected).is_some_and(|both| {
+        narrows_at(g, both.left, both.limits.left) || narrows_at(g, both.right, both.limits.right)
+    })
 }

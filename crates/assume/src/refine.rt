@@ -1,5 +1,5 @@
 // Refining a node to limits (assume.rs 26 to 79).
-ghost use Rattle.std.specs.Prelude.{◌≡◌};
+ghost use Rattle.std.specs.Prelude.{◌≡◌, Ok};
 ghost use Rattle.range.specs.Interval.{bounds_of};
 ghost use Rattle.assume.specs.Limits.{limits_of};
 ghost use Rattle.assume.specs.Refine.{outcome_of, step_of, narrowing_of, narrow, refine_step, assumed, refined};
@@ -19,9 +19,7 @@ fn narrow(g: &mut Region, node: NodeId, range: Range) -> Result<Option<Next>, Fu
     ensures { narrowing_of result g.new ≡ narrow g.old node.0 (bounds_of range) }
 {
     let ty = type_at(g, node);
-    let Ok(found) = insert(g, ty, Some(range), Operation::Refine(node)) else {
-        return Err(Full);
-    };
+    let found = insert(g, ty, Some(range), Operation::Refine(node)).map_err(|_| Full)?;
     set_alias(g, node, found);
     Ok(base_of(g, node, range))
 }
@@ -45,11 +43,11 @@ fn refine_step(g: &mut Region, node: NodeId, limits: Limits) -> Result<Step, Ful
 // A node refined to limits, then the base of the sum that it is, and so on.
 pub fn refine(
     g: &mut Region,
-    so_far: Result<Outcome, Full>,
+    so_far: Outcome,
     node: NodeId,
     limits: Limits,
 ) -> Result<Outcome, Full>
-    ensures { assumed (outcome_of result) g.new ≡ refined (outcome_of so_far) g.old node.0 (limits_of limits) }
+    ensures { assumed (outcome_of result) g.new ≡ refined (outcome_of (Ok so_far)) g.old node.0 (limits_of limits) }
 {
     let mut done = so_far;
     let mut at = node;
@@ -57,14 +55,14 @@ pub fn refine(
     for _ in 0..LIMIT {
         let target = resolve(g, at);
         let Step::Narrowed(next) = refine_step(g, target, wanted)? else {
-            return done;
+            return Ok(done);
         };
-        done = Ok(Outcome::Narrowed);
+        done = Outcome::Narrowed;
         let Some(more) = next else {
-            return done;
+            return Ok(done);
         };
         at = more.node;
         wanted = limited_to(more.range);
     }
-    done
+    Ok(done)
 }

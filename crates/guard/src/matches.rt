@@ -31,8 +31,7 @@ fn wide_compared(op: Binary, left: Word, right: Word) -> Option<bool>
     if !is_comparison(op) {
         return None;
     }
-    let value = binary_value(op, ScalarType::Bool, left, right)?;
-    Some(!value.is_zero())
+    binary_value(op, ScalarType::Bool, left, right).map(|value| !value.is_zero())
 }
 
 impl Guard {
@@ -53,7 +52,8 @@ impl Guard {
     pub fn matches(self, left: Word, right: Word) -> Result<bool, Refusal>
         ensures { match_of result ≡ matches_call (one_guard_of self) (val left) (val right) }
     {
-        let found = self.compared(left, right).ok_or(Refusal::Typing)?;
-        Ok(self.expected == found)
+        self.compared(left, right)
+            .map(|found| self.expected == found)
+            .ok_or(Refusal::Typing)
     }
 }

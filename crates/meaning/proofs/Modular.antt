@@ -26,9 +26,9 @@ use Rattle.graph.specs.Layout.{LIMIT, count_of}
 use Rattle.graph.specs.Node as node
 use Rattle.graph.specs.Node.{Op, type_at, operation_at}
 use Rattle.graph.specs.Insert.{start}
-use Rattle.fold.specs.Shape.{same_type, is_any, refined_of, refined_at}
+use Rattle.fold.specs.Shape.{same_type, is_wide, is_any, refined_of, refined_at}
 use Rattle.plan.specs.Plan as plan
-use Rattle.plan.specs.OneOperand.{View, same, source, view_from, view_at, is_wide, truncated_plan, modular_of, modular_plan}
+use Rattle.plan.specs.OneOperand.{View, same, source, view_from, view_at, truncated_plan, modular_of, modular_plan}
 use Rattle.meaning.specs.Value.{size, of_type, valued, and_then, unary_means, binary_means}
 use Rattle.meaning.proofs.Worlds.{World, operation_means, operand, value}
 use Rattle.meaning.proofs.Constants.{low_valued, pattern}

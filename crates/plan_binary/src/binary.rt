@@ -52,7 +52,7 @@ fn truth(value: bool) -> Plan
 fn compared_plan(op: Binary, left: Option<Range>, right: Option<Range>) -> Option<Plan>
     ensures { decided_of result ≡ compared_plan op (interval_of left) (interval_of right) }
 {
-    Some(truth(compared(op, left, right)?))
+    compared(op, left, right).map(truth)
 }
 
 // One node with itself.
@@ -133,10 +133,10 @@ fn equality_first(g: &Region, node: BinaryNode) -> First
     if !is_equality(op) {
         return First::Do(binary_plan(g, node));
     }
-    match fold_masked_comparison(g, op, left, right) {
-        Some(masked) => First::Try(Attempt::Masked(masked), Rest::Binary(left, right, ty, op)),
-        None => First::Do(binary_plan(g, node)),
-    }
+    fold_masked_comparison(g, op, left, right).map_or_else(
+        || First::Do(binary_plan(g, node)),
+        |masked| First::Try(Attempt::Masked(masked), Rest::Binary(left, right, ty, op)),
+    )
 }
 
 fn open_first(g: &Region, node: BinaryNode) -> First
@@ -144,10 +144,9 @@ fn open_first(g: &Region, node: BinaryNode) -> First
 {
     let known = literal(g, node.right);
     let constant = evaluated(node.ty, node.op, literal(g, node.left), known);
-    match constant.or_else(|| shift_plan(g, node, known)) {
-        Some(plan) => First::Do(plan),
-        None => equality_first(g, node),
-    }
+    constant
+        .or_else(|| shift_plan(g, node, known))
+        .map_or_else(|| equality_first(g, node), First::Do)
 }
 
 #[tactic(auto, unfolding(crate::specs::Binary::binary_first))]

@@ -139,10 +139,12 @@ pub(crate) fn sum_plan(g: &Region, node: BinaryNode, known: Option<Word>) -> Opt
     ensures { decided_of result ≡ given (number_of known) (sum_plan g.now node.ty node.op node.left.0) None }
 {
     let value = known?;
-    if let Some(plan) = remainder_plan(node, value) {
-        return Some(plan);
-    }
-    sum_of_sum(node.ty, node.op, value, by_constant_at(g, node.left)?)
+    remainder_plan(node, value).or_else(|| sum_of_sum(
+        node.ty,
+        node.op,
+        value,
+        by_constant_at(g, node.left)?,
+    ))
 }
 
 // The constant that the base of a sum is compared with.

@@ -9,10 +9,10 @@ use crate::BinaryNode;
 use evaluate::Binary;
 use fold::ByConstant;
 use fold::operator::is_folded_shift;
-use fold::shape::{by_constant_at, fits, is_narrow, origin};
+use fold::shape::{by_constant_at, has_no_bits_above, origin};
 use graph::NodeId;
 use graph::layout::Region;
-use graph::read::{range_at, type_at};
+use graph::read::type_at;
 use plan::Plan;
 use range::ScalarType;
 use word::Word;
@@ -65,7 +65,7 @@ fn shift_by(g: &Region, op: Binary, width: u16, left: NodeId, count: Word) -> Op
     ensures { decided_of result ≡ shift_by g.now op width left.0 (val count) }
 {
     let ty = ScalarType::Bits(width);
-    let narrow = is_narrow(type_at(g, left), width) || fits(range_at(g, left), width);
+    let narrow = has_no_bits_above(g, left, width);
     if is_shifted_out(op, width, count, narrow) {
         return Some(Plan::Constant(Word::ZERO, ty));
     }

@@ -107,10 +107,7 @@ fn is_bool_value(ty: ScalarType, value: Word) -> bool
 fn is_range_of(ty: ScalarType, range: Option<Range>) -> bool
     ensures { result ≡ is_range_of ty (interval_of range) }
 {
-    match range {
-        Some(given) => given.min <= given.max && given.is_inside(ty),
-        None => true,
-    }
+    range.is_none_or(|given| given.min <= given.max && given.is_inside(ty))
 }
 
 // Question 5, of a constant's value and of an input's range.
