@@ -1,6 +1,6 @@
 // The answer to a vector: an operator's code evaluates it; past those the range of its node is asked, and then a function of ranges.
 use crate::operators::{Operator, operator_of};
-use crate::rules::{function_answer, rule_answer};
+use crate::rules::{function_reply, rule_reply};
 use answer::Refusal;
 use evaluate::one_operand::evaluate_unary;
 use evaluate::two_operands::evaluate_binary;
@@ -12,28 +12,11 @@ const RULES: u64 = 64;
 // From here on for a function of ranges.
 const FUNCTIONS: u64 = 128;
 
-// A pattern of 128 bits or Rust's None, a range or none, or a refusal.
+// What a vector's answer is that is not refused: a pattern of 128 bits or Rust's None, or a range or none.
 #[derive(Clone, Copy)]
-pub(crate) enum Answer {
+pub(crate) enum Reply {
     Pattern(Option<Word>),
     Interval(Option<Range>),
-    Refused(Refusal),
-}
-
-// 1 for true and 0 for false.
-impl From<bool> for Answer {
-    fn from(truth: bool) -> Answer {
-        Answer::Pattern(Some(Word::from(truth)))
-    }
-}
-
-impl From<Result<Option<Word>, Refusal>> for Answer {
-    fn from(evaluated: Result<Option<Word>, Refusal>) -> Answer {
-        match evaluated {
-            Ok(pattern) => Answer::Pattern(pattern),
-            Err(refusal) => Answer::Refused(refusal),
-        }
-    }
 }
 
 // The first two operands are an evaluator's, and the ends of the first range; the others are the ends of the second.
@@ -48,10 +31,15 @@ pub(crate) struct Vector {
     pub d: Word,
 }
 
-fn evaluated(operator: Operator, ty: ScalarType, a: Word, b: Word) -> Answer {
+fn evaluated(
+    operator: Operator,
+    ty: ScalarType,
+    a: Word,
+    b: Word,
+) -> Result<Option<Word>, Refusal> {
     match operator {
-        Operator::Unary(operation) => evaluate_unary(operation, a).into(),
-        Operator::Binary(operation) => evaluate_binary(operation, ty, a, b).into(),
+        Operator::Unary(operation) => evaluate_unary(operation, a),
+        Operator::Binary(operation) => evaluate_binary(operation, ty, a, b),
     }
 }
 
@@ -63,7 +51,7 @@ fn range_of(min: Word, max: Word) -> Range {
 }
 
 // A code that no question has is malformed.
-pub(crate) fn answer_of(vector: Vector) -> Option<Answer> {
+pub(crate) fn answer_of(vector: Vector) -> Option<Result<Reply, Refusal>> {
     let Vector {
         code,
         ty,
@@ -76,10 +64,10 @@ pub(crate) fn answer_of(vector: Vector) -> Option<Answer> {
     let first = range_of(a, b);
     let second = range_of(c, d);
     if code < RULES {
-        Some(evaluated(operator_of(code, width)?, ty, a, b))
+        Some(evaluated(operator_of(code, width)?, ty, a, b).map(Reply::Pattern))
     } else if code < FUNCTIONS {
-        rule_answer(operator_of(code - RULES, width)?, ty, first, second)
+        rule_reply(operator_of(code - RULES, width)?, ty, first, second).map(Ok)
     } else {
-        function_answer(code - FUNCTIONS, ty, first, second)
+        function_reply(code - FUNCTIONS, ty, first, second).map(Ok)
     }
 }

@@ -3,7 +3,7 @@
 // After each field stands a space, and after the last one a line end.
 ghost use Rattle.std.specs.Prelude.{◌≡◌, ◌≤◌, IfSome, length};
 
-use crate::answers::{Answer, Vector, answer_of};
+use crate::answers::{Reply, Vector, answer_of};
 use answer::Refusal;
 use evaluate::code::type_of;
 use range::Range;
@@ -18,7 +18,7 @@ pub(crate) const ROOM: usize = 66;
 fn vector_of(line: &[u8; LINE]) -> Option<Vector> {
     let code = number_of(line[..3].strip_suffix(b" ")?)?;
     let type_code = number_of(line[3..6].strip_suffix(b" ")?)?;
-    let width = (number_of(line[6..9].strip_suffix(b" ")?)? % 256) as u16;
+    let width = u16::try_from(number_of(line[6..9].strip_suffix(b" ")?)?).ok()?;
     let ty = type_of(type_code, width)?;
     let a = word_of(line[9..42].strip_suffix(b" ")?)?;
     let b = word_of(line[42..75].strip_suffix(b" ")?)?;
@@ -54,14 +54,14 @@ fn put_refusal(refusal: Refusal, out: &mut [u8; ROOM]) -> usize
 }
 
 // Puts the answer's line at the start of out, and answers where it ends.
-fn put_answer(answer: Answer, out: &mut [u8; ROOM]) -> usize
+fn put_answer(answer: Result<Reply, Refusal>, out: &mut [u8; ROOM]) -> usize
     ensures { result ≤ ROOM }
 {
     match answer {
-        Answer::Pattern(Some(w)) => put_word_line(w, out),
-        Answer::Interval(Some(range)) => put_range(range, out),
-        Answer::Refused(refusal) => put_refusal(refusal, out),
-        Answer::Pattern(None) | Answer::Interval(None) => put_text_in_room(b"none\n", out),
+        Ok(Reply::Pattern(Some(w))) => put_word_line(w, out),
+        Ok(Reply::Interval(Some(range))) => put_range(range, out),
+        Ok(Reply::Pattern(None) | Reply::Interval(None)) => put_text_in_room(b"none\n", out),
+        Err(refusal) => put_refusal(refusal, out),
     }
 }
 

@@ -4,12 +4,9 @@ use Rattle.std.specs.Prelude.{Option}
 use Rattle.word.specs.Option.{given}
 use Rattle.range.specs.Interval.{Interval}
 use Rattle.range.specs.declared.ScalarType.{ScalarType}
-use Rattle.graph.specs.Node.{pair, range_of}
 use Rattle.request.specs.Codes.{clamped, type_by_code, unary_by_code, binary_by_code, truth_by_number}
 use Rattle.request.specs.Request as request
 use Rattle.request.specs.Request.{Request, unnamed}
-use Rattle.export.specs.declared.requests.Numbers.{Numbers}
-use Rattle.export.specs.declared.requests.Numbers.TheVariants as numbers
 
 -- a leaf, its type by code and width
 abbrev pub leaf_named : ℕ → ℕ → (ScalarType → Request) → Request
@@ -52,15 +49,3 @@ concat_by_numbers h l v w = request.concat h l (clamped v) (clamped w)
 -- assume_guard: a condition and what is expected of it
 unfoldable pub guard_by_numbers : ℕ → ℕ → Request
 guard_by_numbers n e = given (truth_by_number e) (request.guard n) (unnamed (0 ∷ 0 ∷ []) (n ∷ n ∷ []))
-
--- what the numbers of an exported call ask for
-abbrev pub asked_by : Numbers → Request
-asked_by (numbers.Constant code width low high) = constant_by_code code width (pair low high)
-asked_by (numbers.Input i code width flag a b c d) = input_by_code i code width (range_of flag (pair a b) (pair c d))
-asked_by (numbers.Effect i code width) = effect_by_code i code width
-asked_by (numbers.Unary code width o p v) = unary_by_codes code width o p v
-asked_by (numbers.Binary code width o l r) = binary_by_codes code width o l r
-asked_by (numbers.Slice v o w) = slice_by_numbers v o w
-asked_by (numbers.Concat h l v w) = concat_by_numbers h l v w
-asked_by (numbers.UnsignedRange v a b c d) = request.unsigned_range v (pair a b) (pair c d)
-asked_by (numbers.Guard n e) = guard_by_numbers n e

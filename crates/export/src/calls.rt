@@ -6,28 +6,18 @@ ghost use Rattle.graph.specs.Node.{pair, range_of};
 ghost use Rattle.graph.specs.WellFormed.{is_graph};
 ghost use Rattle.request.specs.Request.{request_of, unsigned_range};
 ghost use Rattle.native.specs.Perform.{request_in_graph, request_call};
-ghost use Rattle.export.specs.Numbers.{constant_by_code, input_by_code, effect_by_code, unary_by_codes, binary_by_codes, slice_by_numbers, concat_by_numbers, guard_by_numbers, asked_by};
+ghost use Rattle.export.specs.Numbers.{constant_by_code, input_by_code, effect_by_code, unary_by_codes, binary_by_codes, slice_by_numbers, concat_by_numbers, guard_by_numbers};
 ghost use Rattle.export.specs.Export.{exported, numbered};
 
 use crate::requests::{
-    Numbers, binary_request, concat_request, constant_request, request_of, slice_request,
-    unary_request,
+    binary_request, concat_request, constant_request, effect_request, guard_request, input_request,
+    range_of_ends, range_request, slice_request, unary_request,
 };
 use native::Numbered;
 use native::perform::{call, call_in_graph};
 use request::Request;
 use word::Word;
 
-#[tactic(auto, using(graph::proofs::Grown::graph_facts))]
-fn answered_in_graph(g: &mut [u64], numbers: Numbers) -> u64
-    requires { is_graph g.old ≡ true }
-    ensures { exported result g.new ≡ numbered (request_in_graph g.old (asked_by numbers)) }
-{
-    let graph = g.as_mut_array().unwrap();
-    call_in_graph(graph, request_of(numbers)).number()
-}
-
-// The same of a request, for the calls whose request is made where they stand: their numbers are not written and read again.
 #[tactic(auto, using(graph::proofs::Grown::graph_facts))]
 fn asked_in_graph(g: &mut [u64], request: Request) -> u64
     requires { is_graph g.old ≡ true }
@@ -37,10 +27,10 @@ fn asked_in_graph(g: &mut [u64], request: Request) -> u64
     call_in_graph(graph, request).number()
 }
 
-fn answered(g: &mut [u64], numbers: Numbers) -> u64
-    ensures { exported result g.new ≡ numbered (request_call g.old (asked_by numbers)) }
+fn asked(g: &mut [u64], request: Request) -> u64
+    ensures { exported result g.new ≡ numbered (request_call g.old (request_of request)) }
 {
-    call(g, request_of(numbers)).number()
+    call(g, request).number()
 }
 
 #[tactic(auto, unfolding(word::specs::Value::val))]
@@ -58,11 +48,12 @@ pub extern "C" fn scalars_constant_in_graph(
     asked_in_graph(g, constant_request(code, width, Word { lo: low, hi: high }))
 }
 
+#[tactic(auto, unfolding(word::specs::Value::val))]
 #[unsafe(no_mangle)]
 pub extern "C" fn scalars_constant(g: &mut [u64], code: u64, width: u64, low: u64, high: u64) -> u64
     ensures { exported result g.new ≡ numbered (request_call g.old (constant_by_code code width (pair low high))) }
 {
-    answered(g, Numbers::Constant(code, width, low, high))
+    asked(g, constant_request(code, width, Word { lo: low, hi: high }))
 }
 
 #[unsafe(no_mangle)]
@@ -80,12 +71,8 @@ pub extern "C" fn scalars_input_in_graph(
     requires { is_graph g.old ≡ true }
     ensures { exported result g.new ≡ numbered (request_in_graph g.old (input_by_code number code width (range_of flag (pair min_low min_high) (pair max_low max_high)))) }
 {
-    answered_in_graph(
-        g,
-        Numbers::Input(
-            number, code, width, flag, min_low, min_high, max_low, max_high,
-        ),
-    )
+    let range = range_of_ends(flag, min_low, min_high, max_low, max_high);
+    asked_in_graph(g, input_request(number, code, width, range))
 }
 
 #[unsafe(no_mangle)]
@@ -102,12 +89,8 @@ pub extern "C" fn scalars_input(
 ) -> u64
     ensures { exported result g.new ≡ numbered (request_call g.old (input_by_code number code width (range_of flag (pair min_low min_high) (pair max_low max_high)))) }
 {
-    answered(
-        g,
-        Numbers::Input(
-            number, code, width, flag, min_low, min_high, max_low, max_high,
-        ),
-    )
+    let range = range_of_ends(flag, min_low, min_high, max_low, max_high);
+    asked(g, input_request(number, code, width, range))
 }
 
 #[unsafe(no_mangle)]
@@ -115,14 +98,14 @@ pub extern "C" fn scalars_effect_in_graph(g: &mut [u64], number: u64, code: u64,
     requires { is_graph g.old ≡ true }
     ensures { exported result g.new ≡ numbered (request_in_graph g.old (effect_by_code number code width)) }
 {
-    answered_in_graph(g, Numbers::Effect(number, code, width))
+    asked_in_graph(g, effect_request(number, code, width))
 }
 
 #[unsafe(no_mangle)]
 pub extern "C" fn scalars_effect(g: &mut [u64], number: u64, code: u64, width: u64) -> u64
     ensures { exported result g.new ≡ numbered (request_call g.old (effect_by_code number code width)) }
 {
-    answered(g, Numbers::Effect(number, code, width))
+    asked(g, effect_request(number, code, width))
 }
 
 #[unsafe(no_mangle)]
@@ -151,7 +134,7 @@ pub extern "C" fn scalars_unary(
 ) -> u64
     ensures { exported result g.new ≡ numbered (request_call g.old (unary_by_codes code width operator parameter id)) }
 {
-    answered(g, Numbers::Unary(code, width, operator, parameter, id))
+    asked(g, unary_request(code, width, operator, parameter, id))
 }
 
 #[unsafe(no_mangle)]
@@ -180,7 +163,7 @@ pub extern "C" fn scalars_binary(
 ) -> u64
     ensures { exported result g.new ≡ numbered (request_call g.old (binary_by_codes code width operator left right)) }
 {
-    answered(g, Numbers::Binary(code, width, operator, left, right))
+    asked(g, binary_request(code, width, operator, left, right))
 }
 
 #[unsafe(no_mangle)]
@@ -195,7 +178,7 @@ pub extern "C" fn scalars_slice_in_graph(g: &mut [u64], id: u64, offset: u64, wi
 pub extern "C" fn scalars_slice(g: &mut [u64], id: u64, offset: u64, width: u64) -> u64
     ensures { exported result g.new ≡ numbered (request_call g.old (slice_by_numbers id offset width)) }
 {
-    answered(g, Numbers::Slice(id, offset, width))
+    asked(g, slice_request(id, offset, width))
 }
 
 #[unsafe(no_mangle)]
@@ -222,7 +205,7 @@ pub extern "C" fn scalars_concat(
 ) -> u64
     ensures { exported result g.new ≡ numbered (request_call g.old (concat_by_numbers high low low_width width)) }
 {
-    answered(g, Numbers::Concat(high, low, low_width, width))
+    asked(g, concat_request(high, low, low_width, width))
 }
 
 #[unsafe(no_mangle)]
@@ -237,10 +220,7 @@ pub extern "C" fn scalars_unsigned_range_in_graph(
     requires { is_graph g.old ≡ true }
     ensures { exported result g.new ≡ numbered (request_in_graph g.old (unsigned_range id (pair low_low low_high) (pair high_low high_high))) }
 {
-    answered_in_graph(
-        g,
-        Numbers::UnsignedRange(id, low_low, low_high, high_low, high_high),
-    )
+    asked_in_graph(g, range_request(id, low_low, low_high, high_low, high_high))
 }
 
 #[unsafe(no_mangle)]
@@ -254,10 +234,7 @@ pub extern "C" fn scalars_unsigned_range(
 ) -> u64
     ensures { exported result g.new ≡ numbered (request_call g.old (unsigned_range id (pair low_low low_high) (pair high_low high_high))) }
 {
-    answered(
-        g,
-        Numbers::UnsignedRange(id, low_low, low_high, high_low, high_high),
-    )
+    asked(g, range_request(id, low_low, low_high, high_low, high_high))
 }
 
 #[unsafe(no_mangle)]
@@ -265,12 +242,12 @@ pub extern "C" fn scalars_assume_guard_in_graph(g: &mut [u64], condition: u64, e
     requires { is_graph g.old ≡ true }
     ensures { exported result g.new ≡ numbered (request_in_graph g.old (guard_by_numbers condition expected)) }
 {
-    answered_in_graph(g, Numbers::Guard(condition, expected))
+    asked_in_graph(g, guard_request(condition, expected))
 }
 
 #[unsafe(no_mangle)]
 pub extern "C" fn scalars_assume_guard(g: &mut [u64], condition: u64, expected: u64) -> u64
     ensures { exported result g.new ≡ numbered (request_call g.old (guard_by_numbers condition expected)) }
 {
-    answered(g, Numbers::Guard(condition, expected))
+    asked(g, guard_request(condition, expected))
 }

@@ -4,7 +4,7 @@ ghost use Rattle.std.specs.Prelude.{true, ◌≡◌, length, ◌<◌, ◌/◌, �
 ghost use Rattle.word.specs.Value.{val};
 ghost use Rattle.word.specs.Option.{from_bool};
 ghost use Rattle.evaluate.specs.Answer.{outcome_of};
-ghost use Rattle.graph.specs.Layout.{WORDS, LIMIT};
+ghost use Rattle.graph.specs.Layout.{LIMIT};
 ghost use Rattle.graph.specs.Node.{pair};
 ghost use Rattle.graph.specs.WellFormed.{is_graph};
 ghost use Rattle.guard.specs.Guard.{one_guard_of, guard_of};
@@ -107,13 +107,12 @@ pub extern "C" fn scalars_resolve(g: &[u64], id: u64) -> u64
 }
 
 // The words of a node.
-fn words_at(g: &Region, node: u64) -> &[u64]
+fn words_at(g: &Region, node: u64) -> &[u64; SIZE]
     requires { node < LIMIT }
-    ensures words { result.now ≡ words_at g.now node }
-    ensures len { length result.now ≡ WORDS }
+    ensures { result.now ≡ words_at g.now node }
 {
     let start = start_of(node);
-    &g[start..start + SIZE]
+    g[start..start + SIZE].as_array().unwrap()
 }
 
 // A node: 1 and its words, which are its type, range, operation and alias.
@@ -281,7 +280,7 @@ fn mask_of(width: u64) -> Result<Option<Word>, Refusal>
     ensures { outcome_of result ≡ masked width }
 {
     if width <= WIDEST_WORD {
-        Ok(Some(mask((width % 65536) as u16)))
+        Ok(Some(mask(width as u16)))
     } else {
         Err(Refusal::Width)
     }

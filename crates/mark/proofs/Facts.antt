@@ -9,11 +9,12 @@ use native.Mathlib.Omega.{arith}
 use borrow.Author.Tests.{eqb-true, leb-true, eq-eqb, ne_eqb, le-leb}
 use lib.Dec.{eqb, leb}
 use lib.ListN as list
-use lib.ListN.{get_or}
+use lib.ListN.{get_or, take}
+use lib.Seq.{get_or-take, length-take-le}
 use Rattle.word.proofs.Integer.{lt-or-ge}
 use Rattle.range.proofs.Sound.{tests}
-use Rattle.graph.specs.Layout.{count_of}
-use Rattle.graph.specs.WellFormed.{is_alias, is_graph}
+use Rattle.graph.specs.Layout.{REGION, count_of}
+use Rattle.graph.specs.WellFormed.{is_alias, all_pass, is_graph}
 use Rattle.graph.proofs.Grown.{Graph, graph_facts}
 use Rattle.graph.proofs.Tests.{pass_of, all_pass_lem}
 use Rattle.mark.specs.Layout.{MOST, MARKS, standing, count_at, aliases_at}
@@ -116,12 +117,25 @@ pub marks_are : (nodes : ℕ) (m : List ℕ) → list.length m ≡ MARKS → sta
 unfolding are_marks
 marks_are nodes m e l = rw (eq-eqb (list.length m) MARKS e, le-leb (standing m) MOST l)
 
+-- ---- the alias words of a mark's nodes alone
+
+taken_pass : (ws : List ℕ) (n m : ℕ) → m ≤ n → all_pass (λ i. is_alias i n (get_or (take n ws) i 0)) m ≡ all_pass (λ i. is_alias i n (get_or ws i 0)) m
+taken_pass ws n zero h = refl
+taken_pass ws n (suc m) h = rw (taken_pass ws n m (omega arith), get_or-take n ws m 0 (omega arith))
+
+pub aliases_taken : (ws : List ℕ) (n : ℕ) → n ≤ list.length ws → are_aliases (take n ws) (list.length (take n ws)) ≡ are_aliases ws n
+aliases_taken ws n h = rw (length-take-le n ws h) (taken_pass ws n n (le_refl n))
+
 -- ---- both regions
 
 pub regions_facts : (g m : List ℕ) → is_marked g m ≡ true → Graph g × Marks (count_of g) m
 regions_facts g m e = let d = marked_both g m e in (graph_facts g d.0, marks_facts (count_of g) m d.1)
 
 -- ---- a slice of another length
+
+pub short_graph : (g m : List ℕ) → (list.length g ≡ REGION → ⊥) → is_marked g m ≡ false
+unfolding is_marked is_graph
+short_graph g m h = rw (ne_eqb _ REGION h)
 
 pub short_marks : (g m : List ℕ) → (list.length m ≡ MARKS → ⊥) → is_marked g m ≡ false
 unfolding is_marked are_marks

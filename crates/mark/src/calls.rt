@@ -27,16 +27,17 @@ pub fn mark_in_graph(g: &Region, m: &mut Marks) -> Result<MarkId, Refusal>
     }
 }
 
-#[tactic(auto, using(graph::proofs::Grown::graph_facts), unfolding(crate::specs::Mark::mark_call, crate::specs::WellFormed::is_marked, crate::specs::WellFormed::are_marks))]
+#[tactic(auto, using(crate::proofs::Facts::short_marks, crate::proofs::Facts::short_graph), unfolding(crate::specs::Mark::mark_call))]
 pub fn mark(g: &[u64], m: &mut [u64]) -> Result<MarkId, Refusal>
     ensures { marking (marking_of result) m.new ≡ mark_call g.now m.old }
 {
-    if !is_marked(g, m) {
-        return Err(Refusal::Graph);
+    let region = g.as_array().ok_or(Refusal::Graph)?;
+    let marks = m.as_mut_array().ok_or(Refusal::Graph)?;
+    if is_marked(region, marks) {
+        mark_in_graph(region, marks)
+    } else {
+        Err(Refusal::Graph)
     }
-    let graph = g.as_array().unwrap();
-    let marks = m.as_mut_array().unwrap();
-    mark_in_graph(graph, marks)
 }
 
 // The graph as it was at a mark that stands; later marks are dropped.
@@ -55,14 +56,15 @@ pub fn return_to_in_graph(g: &mut Region, m: &mut Marks, mark: MarkId) -> Result
     }
 }
 
-#[tactic(auto, using(graph::proofs::Grown::graph_facts), unfolding(crate::specs::Mark::return_call, crate::specs::WellFormed::is_marked, crate::specs::WellFormed::are_marks))]
+#[tactic(auto, using(crate::proofs::Facts::short_marks, crate::proofs::Facts::short_graph), unfolding(crate::specs::Mark::return_call))]
 pub fn return_to(g: &mut [u64], m: &mut [u64], mark: MarkId) -> Result<Answer, Refusal>
     ensures { returning (answer_of result) g.new m.new ≡ return_call g.old m.old mark.0 }
 {
-    if !is_marked(g, m) {
-        return Err(Refusal::Graph);
+    let region = g.as_mut_array().ok_or(Refusal::Graph)?;
+    let marks = m.as_mut_array().ok_or(Refusal::Graph)?;
+    if is_marked(region, marks) {
+        return_to_in_graph(region, marks, mark)
+    } else {
+        Err(Refusal::Graph)
     }
-    let graph = g.as_mut_array().unwrap();
-    let marks = m.as_mut_array().unwrap();
-    return_to_in_graph(graph, marks, mark)
 }

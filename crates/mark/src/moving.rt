@@ -1,12 +1,12 @@
-// Setting a mark and going back to one, on regions whose questions are answered yes. The bound of a mark's number is a clause of three private functions: a type for it
-// would be made at each call from the word or the number that was asked of, with the proof that the clause takes.
+// Setting a mark and going back to one, on regions whose questions are answered yes. The bound of a mark's number is a clause of the private functions here, in layout.rt
+// and in well_formed.rt: a type for it would be made at each call from the word or the number that was asked of, with the proof that the clause takes.
 ghost use Rattle.std.specs.Prelude.{true, ◌≡◌, ◌<◌, ◌≤◌};
 ghost use Rattle.graph.specs.Layout.{LIMIT, count_of};
 ghost use Rattle.graph.specs.WellFormed.{is_graph};
 ghost use Rattle.mark.specs.Layout.{MOST, count_at};
 ghost use Rattle.mark.specs.Mark.{marked, returned, standing_only};
 
-use crate::layout::{FIRST, Marks, SPAN};
+use crate::layout::{Marks, aliases_of, nodes_of, start_of};
 use graph::alias::{restore_to, save_aliases};
 use graph::layout::{NODES, Region, count};
 
@@ -16,7 +16,7 @@ pub(crate) fn set_mark(g: &Region, m: &mut Marks, mark: u64)
     requires { (count_of g.now ≤ LIMIT) × (mark < MOST) }
     ensures { m.new ≡ marked g.now m.old mark }
 {
-    let at = (FIRST + SPAN * mark) as usize;
+    let at = start_of(mark);
     m[0] = mark + 1;
     m[at] = count(g);
     save_aliases(g, &mut m[at + 1..at + 1 + NODES]);
@@ -28,9 +28,7 @@ pub(crate) fn go_back(g: &mut Region, m: &Marks, mark: u64)
     requires { (is_graph g.old ≡ true) × (mark < MOST) × (count_at m.now mark ≤ count_of g.old) }
     ensures { g.new ≡ returned g.old m.now mark }
 {
-    let at = (FIRST + SPAN * mark) as usize;
-    let words = m[at + 1..at + 1 + NODES].as_array().unwrap();
-    restore_to(g, m[at], count(g), words);
+    restore_to(g, nodes_of(m, mark), count(g), aliases_of(m, mark));
 }
 
 // The first marks alone stand.

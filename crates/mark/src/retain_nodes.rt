@@ -16,9 +16,8 @@ use native::retain_nodes::retain_unmarked_in_graph;
 fn drop_marks(m: &mut Marks, retained: Result<u64, Refusal>)
     ensures { m.new ≡ unmarked (outcome_of retained) m.old }
 {
-    match retained {
-        Ok(_) => leave_standing(m, 0),
-        Err(_) => (),
+    if retained.is_ok() {
+        leave_standing(m, 0);
     }
 }
 
@@ -37,7 +36,7 @@ pub fn retain_in_graph(
     retained
 }
 
-#[tactic(auto, using(graph::proofs::Grown::graph_facts), unfolding(crate::specs::Mark::retain_call, crate::specs::WellFormed::is_marked, crate::specs::WellFormed::are_marks))]
+#[tactic(auto, using(crate::proofs::Facts::short_marks, crate::proofs::Facts::short_graph), unfolding(crate::specs::Mark::retain_call))]
 pub fn retain(
     g: &mut [u64],
     m: &mut [u64],
@@ -46,10 +45,11 @@ pub fn retain(
 ) -> Result<u64, Refusal>
     ensures { retaining (retention (outcome_of result) g.new mapping.new) m.new ≡ retain_call g.old m.old keep.now mapping.old }
 {
-    if !is_marked(g, m) {
-        return Err(Refusal::Graph);
+    let region = g.as_mut_array().ok_or(Refusal::Graph)?;
+    let marks = m.as_mut_array().ok_or(Refusal::Graph)?;
+    if is_marked(region, marks) {
+        retain_in_graph(region, marks, keep, mapping)
+    } else {
+        Err(Refusal::Graph)
     }
-    let graph = g.as_mut_array().unwrap();
-    let marks = m.as_mut_array().unwrap();
-    retain_in_graph(graph, marks, keep, mapping)
 }

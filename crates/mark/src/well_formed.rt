@@ -4,31 +4,26 @@ ghost use Rattle.graph.specs.Layout.{LIMIT};
 ghost use Rattle.mark.specs.Layout.{MOST};
 ghost use Rattle.mark.specs.WellFormed.{are_aliases, is_mark, are_marks, is_marked};
 
-use crate::layout::{FIRST, MOST, Marks, SPAN, standing};
-use graph::layout::{NODES, count};
+use crate::layout::{MOST, Marks, aliases_of, nodes_of, standing};
+use graph::layout::count;
 use graph::well_formed::{as_graph, is_alias};
 
-// Are the first words alias words of a graph of so many nodes? The number is no length: a mark has a word for each node that there can be.
-fn are_aliases(words: &[u64], nodes: u64) -> bool
-    requires { nodes ≤ length words.now }
-    ensures { result ≡ are_aliases words.now nodes }
+// Are these the alias words of a graph of as many nodes?
+fn are_aliases(words: &[u64]) -> bool
+    ensures { result ≡ are_aliases words.now (length words.now) }
 {
+    let nodes = words.len() as u64;
     (0..nodes).all(|n| is_alias(n, nodes, words[n as usize]))
 }
 
 // A mark of at most `limit` nodes, with alias words of a graph.
+#[tactic(auto, using(crate::proofs::Facts::aliases_taken))]
 fn is_mark(m: &Marks, mark: u64, limit: u64) -> bool
     requires { (mark < MOST) × (limit ≤ LIMIT) }
     ensures { result ≡ is_mark limit m.now mark }
 {
-    let at = (FIRST + SPAN * mark) as usize;
-    let nodes = m[at];
-    if limit < nodes {
-        return false;
-    }
-    let from = at + 1;
-    let to = from + NODES;
-    are_aliases(&m[from..to], nodes)
+    let nodes = nodes_of(m, mark);
+    nodes <= limit && are_aliases(&aliases_of(m, mark)[..nodes as usize])
 }
 
 // From the last mark down: none has more nodes than the next one, nor the last more than the graph.
@@ -46,7 +41,7 @@ fn are_marks(m: &Marks, nodes: u64) -> bool
         if !is_mark(m, mark, limit) {
             return false;
         }
-        limit = m[(FIRST + SPAN * mark) as usize];
+        limit = nodes_of(m, mark);
     }
     true
 }
@@ -56,11 +51,8 @@ fn are_marks(m: &Marks, nodes: u64) -> bool
 pub fn is_marked(g: &[u64], m: &[u64]) -> bool
     ensures { result ≡ is_marked g.now m.now }
 {
-    let Some(graph) = as_graph(g) else {
-        return false;
-    };
-    let Some(marks) = m.as_array() else {
-        return false;
-    };
-    are_marks(marks, count(graph))
+    match (as_graph(g), m.as_array()) {
+        (Some(graph), Some(marks)) => are_marks(marks, count(graph)),
+        _ => false,
+    }
 }

@@ -6,7 +6,7 @@ use answer::Refusal;
 use evaluate::Binary;
 use graph::layout::{REGION, Region};
 use graph::{InputId, NodeId};
-use mark::layout::MARKS;
+use mark::layout::{MARKS, Marks};
 use mark::retain_nodes::retain;
 use mark::{MarkId, calls};
 use native::{Answer, by_name, reading};
@@ -41,69 +41,90 @@ fn say(mut stdout: Stdout, byte: u8) {
     let _is_written = stdout.write_all(&line).is_ok();
 }
 
-// Is input 0 below 5? The node of the question is 2 unless what is known decides it.
-fn is_below(g: &mut Region) -> Result<Answer, Refusal> {
-    by_name::binary(
-        g,
-        ScalarType::Bool,
-        Binary::LessUnsigned,
-        NodeId(0),
-        NodeId(1),
-    )
+// The lent words of the two examples, and where the answers go.
+#[derive(Drop)]
+struct Example {
+    stdout: Stdout,
+    graph: Region,
+    marks: Marks,
 }
 
-// Nodes 0, 1 and 2: an input, a constant, and the question.
-fn begin(stdout: Stdout, g: &mut Region) {
-    let bits = ScalarType::Bits(8);
-    let five = Word { lo: 5, hi: 0 };
-    say(stdout, letter(by_name::input(g, InputId(0), bits, None)));
-    say(stdout, letter(by_name::constant(g, bits, five)));
-    say(stdout, letter(is_below(g)));
-}
+impl Example {
+    // Is input 0 below 5? The node of the question is 2 unless what is known decides it.
+    fn is_below(&mut self) {
+        let answer = by_name::binary(
+            &mut self.graph,
+            ScalarType::Bool,
+            Binary::LessUnsigned,
+            NodeId(0),
+            NodeId(1),
+        );
+        say(self.stdout, letter(answer));
+    }
 
-fn set_mark(stdout: Stdout, g: &Region, m: &mut [u64; MARKS]) {
-    say(stdout, number(calls::mark(g, m).map(|mark| mark.0)));
-}
+    // Nodes 0, 1 and 2: an input, a constant, and the question.
+    fn begin(&mut self) {
+        let bits = ScalarType::Bits(8);
+        let input = by_name::input(&mut self.graph, InputId(0), bits, None);
+        say(self.stdout, letter(input));
+        let five = by_name::constant(&mut self.graph, bits, Word::from(5));
+        say(self.stdout, letter(five));
+        self.is_below();
+    }
 
-fn assume(stdout: Stdout, g: &mut Region) {
-    say(stdout, letter(by_name::assume_guard(g, NodeId(2), true)));
-}
+    fn set_mark(&mut self) {
+        let mark = calls::mark(&self.graph, &mut self.marks);
+        say(self.stdout, number(mark.map(|mark| mark.0)));
+    }
 
-fn go_back(stdout: Stdout, g: &mut Region, m: &mut [u64; MARKS]) {
-    say(stdout, letter(calls::return_to(g, m, MarkId(0))));
-}
+    fn assume(&mut self) {
+        let answer = by_name::assume_guard(&mut self.graph, NodeId(2), true);
+        say(self.stdout, letter(answer));
+    }
 
-fn resolved(stdout: Stdout, g: &Region) {
-    say(stdout, letter(reading::resolve(g, NodeId(0))));
-}
+    fn go_back(&mut self) {
+        let answer = calls::return_to(&mut self.graph, &mut self.marks, MarkId(0));
+        say(self.stdout, letter(answer));
+    }
 
-// In the arm the question is decided; after the return it is the node again.
-fn arm(stdout: Stdout, g: &mut Region, m: &mut [u64; MARKS]) {
-    set_mark(stdout, g, m);
-    assume(stdout, g);
-    say(stdout, letter(is_below(g)));
-    go_back(stdout, g, m);
-    say(stdout, letter(is_below(g)));
-}
+    fn resolve(&self) {
+        say(
+            self.stdout,
+            letter(reading::resolve(&self.graph, NodeId(0))),
+        );
+    }
 
-// A retain of all nodes clears the aliases and keeps the Refine, which the guard finds again.
-fn old_refine(stdout: Stdout, g: &mut Region, m: &mut [u64; MARKS]) {
-    assume(stdout, g);
-    let keep = [1u8; 4];
-    let mut mapping = [0u64; 4];
-    say(stdout, number(retain(g, m, &keep, &mut mapping)));
-    set_mark(stdout, g, m);
-    assume(stdout, g);
-    resolved(stdout, g);
-    go_back(stdout, g, m);
-    resolved(stdout, g);
+    // In the arm the question is decided; after the return it is the node again.
+    fn arm(&mut self) {
+        self.set_mark();
+        self.assume();
+        self.is_below();
+        self.go_back();
+        self.is_below();
+    }
+
+    // A retain of all nodes clears the aliases and keeps the Refine, which the guard finds again.
+    fn old_refine(&mut self) {
+        self.assume();
+        let keep = [1u8; 4];
+        let mut mapping = [0u64; 4];
+        let kept = retain(&mut self.graph, &mut self.marks, &keep, &mut mapping);
+        say(self.stdout, number(kept));
+        self.set_mark();
+        self.assume();
+        self.resolve();
+        self.go_back();
+        self.resolve();
+    }
 }
 
 fn main(rt: HostRuntime) {
-    let stdout = rt.stdout();
-    let mut g = [0u64; REGION];
-    let mut m = [0u64; MARKS];
-    begin(stdout, &mut g);
-    arm(stdout, &mut g, &mut m);
-    old_refine(stdout, &mut g, &mut m);
+    let mut example = Example {
+        stdout: rt.stdout(),
+        graph: [0; REGION],
+        marks: [0; MARKS],
+    };
+    example.begin();
+    example.arm();
+    example.old_refine();
 }

@@ -67,7 +67,7 @@ impl Numbered for bool {
     ghost as_number = { from_bool };
 
     fn number(self) -> u64 {
-        self as u64
+        u64::from(self)
     }
 }
 

@@ -30,7 +30,7 @@ pub(crate) fn full_budget() -> Budget
     Budget { units: UNITS }
 }
 
-// A builder's answer to a caller, who says what no room is.
+// A builder's answer to a caller, who says what no room is: `full` is handed down to here because a quota has a refusal of its own (docs/DECISIONS.md).
 pub(crate) fn settle(built: Result<NodeId, Unbuilt>, full: Refusal) -> Result<Answer, Refusal>
     ensures { answer_of result ≡ settled full (built_of built) }
 {
@@ -80,7 +80,13 @@ fn work(g: &mut Region, request: Request, full: Refusal) -> Result<Answer, Refus
         Request::Effect(id, ty) => settle(leaf::effect(g, id, ty), full),
         Request::Unary(value, ty, op) => direct::unary(g, ty, op, value, full),
         Request::Binary(left, right, ty, op) => direct::binary(g, ty, op, left, right, full),
-        Request::Slice(value, offset, width) => direct::slice(g, value, offset as u64, width, full),
+        Request::Slice(value, offset, width) => direct::slice(
+            g,
+            value,
+            u64::from(offset),
+            width,
+            full,
+        ),
         Request::Concat(high, low, low_width, width) => {
             let built = build::concat(g, &mut full_budget(), high, low, low_width, width);
             settle(built, full)

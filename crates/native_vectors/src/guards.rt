@@ -1,16 +1,12 @@
-// The calls of guards: assume_guard, guard and matches. The number is a condition, and the flag what is expected of it.
-// Of a matches the number is what is expected, the width whether 64 bits suffice, and the flag an operator's code.
+// A guard as one word, and the call matches: its number is what is expected, its width whether 64 bits suffice, and its flag an operator's code.
 ghost use Rattle.std.specs.Prelude.{◌≡◌, ◌+◌, ◌*◌, ◌%◌, ◌^◌, if◌then◌else◌};
 ghost use Rattle.evaluate.specs.Operator.{binary_code};
 
-use crate::calls::Reply;
 use crate::lines::Call;
 use answer::Refusal;
 use evaluate::code::binary_of;
 use graph::NodeId;
 use guard::Guard;
-use native::by_name::assume_guard;
-use native::reading::guard;
 use word::Word;
 
 // One more than the largest id that a guard's word has room for.
@@ -24,12 +20,12 @@ pub(crate) fn packed(guard: Guard) -> Word
     let op = guard.operation;
     Word {
         lo: guard.left.0 % IDS * IDS + guard.right.0 % IDS,
-        hi: op.code() * 65536 + guard.expected as u64 * 256 + guard.host64 as u64,
+        hi: op.code() * 65536 + u64::from(guard.expected) * 256 + u64::from(guard.host64),
     }
 }
 
 // Whether the two words match a guard. Of the guard's ids nothing is asked.
-fn matched(call: Call) -> Result<bool, Refusal> {
+pub(crate) fn matched(call: Call) -> Result<bool, Refusal> {
     let guard = Guard {
         operation: binary_of(call.flag),
         left: NodeId(0),
@@ -38,14 +34,4 @@ fn matched(call: Call) -> Result<bool, Refusal> {
         host64: call.width != 0,
     };
     guard.matches(call.a, call.b)
-}
-
-pub(crate) fn guarded(g: &mut [u64], call: Call) -> Result<Reply, Refusal> {
-    let id = NodeId(call.number);
-    let expected = call.flag != 0;
-    match call.kind {
-        9 => assume_guard(g, id, expected).map(Reply::Answer),
-        14 => guard(g, id, expected).map(Reply::Guard),
-        _ => matched(call).map(Reply::Truth),
-    }
 }

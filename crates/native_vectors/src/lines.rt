@@ -1,5 +1,8 @@
 // The text of a call: hex digits of its kind (2), the region's length (4), a number (16), a type (2), a width (4), a flag (2)
 // and two words (32 each), with a space after each field and a line end after the last.
+use evaluate::code::type_of;
+use graph::NodeId;
+use range::ScalarType;
 use vector_lines::{number_of, word_of};
 use word::Word;
 
@@ -19,23 +22,41 @@ pub(crate) struct Call {
     pub b: Word,
 }
 
+impl Call {
+    // The node or the condition that the number names.
+    pub(crate) fn id(self) -> NodeId {
+        NodeId(self.number)
+    }
+
+    // None for a type that there is not.
+    pub(crate) fn ty(self) -> Option<ScalarType> {
+        type_of(self.type_code, self.width)
+    }
+}
+
+// The number that so many hex digits at the start of a line spell, and what stands behind the space after them.
+fn number_field(line: &[u8], digits: usize) -> Option<(u64, &[u8])> {
+    let (field, rest) = line.split_at_checked(digits)?;
+    Some((number_of(field)?, rest.strip_prefix(b" ")?))
+}
+
 pub(crate) fn call_of(line: &[u8; LINE]) -> Option<Call> {
-    let kind = number_of(line[..3].strip_suffix(b" ")?)?;
-    let len = number_of(line[3..8].strip_suffix(b" ")?)? as usize;
-    let number = number_of(line[8..25].strip_suffix(b" ")?)?;
-    let type_code = number_of(line[25..28].strip_suffix(b" ")?)?;
-    let width = (number_of(line[28..33].strip_suffix(b" ")?)? % 65536) as u16;
-    let flag = number_of(line[33..36].strip_suffix(b" ")?)?;
-    let a = word_of(line[36..69].strip_suffix(b" ")?)?;
-    let b = word_of(line[69..].strip_suffix(b"\n")?)?;
+    let (kind, rest) = number_field(line, 2)?;
+    let (len, rest) = number_field(rest, 4)?;
+    let (number, rest) = number_field(rest, 16)?;
+    let (type_code, rest) = number_field(rest, 2)?;
+    let (width, rest) = number_field(rest, 4)?;
+    let (flag, rest) = number_field(rest, 2)?;
+    let (a, rest) = rest.split_at_checked(32)?;
+    let b = rest.strip_prefix(b" ")?.strip_suffix(b"\n")?;
     Some(Call {
         kind,
-        len,
+        len: len as usize,
         number,
         type_code,
-        width,
+        width: u16::try_from(width).ok()?,
         flag,
-        a,
-        b,
+        a: word_of(a)?,
+        b: word_of(b)?,
     })
 }

@@ -25,6 +25,7 @@ fn record_length(bytes: &[u8]) -> usize
 }
 
 // The bytes of a line, and whether there may be another record after it.
+// A Step told apart in the loop itself asks four goals there for the law of a step, each over what its line leaves of the slice.
 #[derive(Clone, Copy)]
 struct Told {
     len: usize,

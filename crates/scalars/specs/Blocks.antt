@@ -8,8 +8,6 @@ use Rattle.record.specs.declared.perform.Step.{Step}
 use Rattle.record.specs.declared.perform.Step.TheVariants as step
 use Rattle.meaning.specs.Program.{Run, next}
 use Rattle.scalars.specs.declared.blocks.One.{One}
-use Rattle.scalars.specs.declared.blocks.State.{State}
-use Rattle.scalars.specs.declared.blocks.State.TheVariants as state
 
 -- ---- one record
 
@@ -71,10 +69,3 @@ pub record Through (g m input out : List ℕ) (read written : ℕ) (is_over : Bo
 abbrev pub Stops : List ℕ → List ℕ → ℕ → ℕ → Bool → Type 0
 Stops input out read written true = Unit {0}
 Stops input out read written false = (first_length (drop read input) ≡ None) ⊎ (length (drop written out) < LINE)
-
--- ---- what is left of a buffer
-
--- so many bytes of a buffer are filled
-abbrev pub Fills : List ℕ → State → Type 0
-Fills input (state.Reading n) = n ≤ length input
-Fills input (state.Ended n) = n ≤ length input

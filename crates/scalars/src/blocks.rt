@@ -1,7 +1,7 @@
 // Records in blocks: as many as a block holds whole, their lines, and what is left over.
 ghost use Rattle.std.specs.Prelude.{◌≤◌, length, IfOk, IfSome};
 ghost use Rattle.meaning.specs.Program.{Grown};
-ghost use Rattle.scalars.specs.Blocks.{OneSays, Through, Stops, Fills};
+ghost use Rattle.scalars.specs.Blocks.{OneSays, Through, Stops};
 
 use graph::layout::{NODES, REGION, Region, count};
 use record::line::put_nodes;
@@ -31,11 +31,12 @@ pub struct Ran {
     pub over: bool,
 }
 
-// So many bytes of the buffer are filled, and there may be more; or nothing more is read, and so many are left.
-#[derive(Clone, Copy)]
-pub enum State {
-    Reading(usize),
-    Ended(usize),
+// The bytes that were read and are not yet done: so many of the buffer's first. The longest record has 65,538 bytes: a full buffer holds a whole one.
+#[derive(Drop)]
+pub struct Input {
+    pub bytes: [u8; 131072],
+    pub filled: usize,
+    ghost inside: { filled ≤ length bytes },
 }
 
 impl Memory {
@@ -109,29 +110,26 @@ impl Memory {
         }
     }
 
-    // Reads once behind the first `filled` bytes, which the turn before left, and drains the buffer. `filled` is no place that a caller could cut
-    // off: what is left goes back to the buffer's start.
+    // Reads once and runs the records that are there whole. False where nothing more is read: at the end of the input, or after a bad record.
     pub(crate) fn turn(
         &mut self,
         stdin: Stdin,
         stdout: Stdout,
-        input: &mut [u8],
-        filled: usize,
+        input: &mut Input,
         out: &mut [u8],
-    ) -> io::Result<State>
-        requires { filled ≤ length input.old }
-        ensures { IfOk result (Fills input.old) }
-    {
-        let got = read_some(stdin, &mut input[filled..]);
+    ) -> io::Result<bool> {
+        let got = read_some(stdin, &mut input.bytes[input.filled..]);
         if got == 0 {
-            return Ok(State::Ended(filled));
+            return Ok(false);
         }
-        let end = filled + got;
-        let Some(done) = self.drain(stdout, &input[..end], out)? else {
-            return Ok(State::Ended(0));
+        let end = input.filled + got;
+        let Some(done) = self.drain(stdout, &input.bytes[..end], out)? else {
+            input.filled = 0;
+            return Ok(false);
         };
-        input.copy_within(done..end, 0);
-        Ok(State::Reading(end - done))
+        input.bytes.copy_within(done..end, 0);
+        input.filled = end - done;
+        Ok(true)
     }
 
     // What is left at the end of the input is a record cut off.
@@ -154,10 +152,10 @@ impl Memory {
     pub(crate) fn finish(
         &mut self,
         mut stdout: Stdout,
-        rest: &[u8],
+        input: &Input,
         out: &mut [u8],
     ) -> io::Result<()> {
-        let at = self.end_inside(rest, out);
+        let at = self.end_inside(&input.bytes[..input.filled], out);
         let end = at + put_nodes(count(&self.graph), &mut out[at..]);
         stdout.write_all(&out[..end])
     }

@@ -3,7 +3,7 @@
 
 mod blocks;
 
-use blocks::{Memory, State};
+use blocks::{Input, Memory};
 use std::io::{self, Stdin, Stdout};
 
 // A proved loop has to end: this one has a number of turns that no run uses up.
@@ -11,27 +11,23 @@ fn run(
     stdin: Stdin,
     stdout: Stdout,
     memory: &mut Memory,
-    input: &mut [u8],
+    input: &mut Input,
     out: &mut [u8],
 ) -> io::Result<()> {
-    let mut filled = 0;
     for _ in 0..u64::MAX {
-        match memory.turn(stdin, stdout, input, filled, out)? {
-            State::Reading(left) => {
-                filled = left;
-            }
-            State::Ended(left) => {
-                return memory.finish(stdout, &input[..left], out);
-            }
+        if !memory.turn(stdin, stdout, input, out)? {
+            return memory.finish(stdout, input, out);
         }
     }
     Ok(())
 }
 
-// The longest record has 65,538 bytes: a full buffer holds a whole one.
 fn main(rt: HostRuntime) {
     let mut memory = Memory::new();
-    let mut input = [0u8; 131072];
+    let mut input = Input {
+        bytes: [0; 131072],
+        filled: 0,
+    };
     let mut out = [0u8; 65536];
 
     // A write that fails ends the run: there is nobody to tell.

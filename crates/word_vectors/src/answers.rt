@@ -5,11 +5,6 @@ use word::{Signed, Word};
 // A pattern of 128 bits, or Rust's None.
 pub(crate) type Answer = Option<Word>;
 
-// A count, or 1 for true and 0 for false.
-fn count(n: u64) -> Answer {
-    Some(Word { lo: n, hi: 0 })
-}
-
 // The low 32 bits.
 fn amount(w: Word) -> u32 {
     (w.lo % 0x1_0000_0000) as u32
@@ -26,7 +21,7 @@ fn word_arithmetic(operation: u64, a: Word, b: Word) -> Option<Answer> {
         6 => a.checked_rem(b),
         7 => a.divide(b).map(|d| d.quotient),
         8 => a.divide(b).map(|d| d.remainder),
-        9 => a.divide(b).and_then(|d| count(d.steps as u64)),
+        9 => a.divide(b).map(|d| Word::from(u64::from(d.steps))),
         _ => return None,
     })
 }
@@ -37,10 +32,10 @@ fn word_bits(operation: u64, a: Word, b: Word) -> Option<Answer> {
         1 => Some(a | b),
         2 => Some(a ^ b),
         3 => Some(!a),
-        4 => count(a.leading_zeros() as u64),
-        5 => count(a.trailing_zeros() as u64),
-        6 => count(a.is_power_of_two() as u64),
-        7 => count(a.is_zero() as u64),
+        4 => Some(Word::from(u64::from(a.leading_zeros()))),
+        5 => Some(Word::from(u64::from(a.trailing_zeros()))),
+        6 => Some(Word::from(a.is_power_of_two())),
+        7 => Some(Word::from(a.is_zero())),
         8 => Some(a.as_signed().as_word()),
         _ => return None,
     })
@@ -53,16 +48,17 @@ fn word_shift(operation: u64, a: Word, b: Word) -> Option<Answer> {
         1 => Some(a.unbounded_shr(n)),
         2 => a.checked_shl(n),
         3 => a.checked_shr(n),
-        4 => count(a.bit(n)),
+        4 => Some(Word::from(a.bit(n))),
         _ => return None,
     })
 }
 
+// Five rows stand here and for Signed below: as one function they would take a conversion, and each use would hand it.
 fn word_order(operation: u64, a: Word, b: Word) -> Option<Answer> {
     Some(match operation {
-        0 => count((a == b) as u64),
-        1 => count((a < b) as u64),
-        2 => count((a <= b) as u64),
+        0 => Some(Word::from(a == b)),
+        1 => Some(Word::from(a < b)),
+        2 => Some(Word::from(a <= b)),
         3 => Some(a.min(b)),
         4 => Some(a.max(b)),
         _ => return None,
@@ -109,12 +105,12 @@ fn signed_bits(operation: u64, a: Signed, b: Signed) -> Option<Answer> {
 
 fn signed_order(operation: u64, a: Signed, b: Signed) -> Option<Answer> {
     Some(match operation {
-        0 => count((a == b) as u64),
-        1 => count((a < b) as u64),
-        2 => count((a <= b) as u64),
+        0 => Some(Word::from(a == b)),
+        1 => Some(Word::from(a < b)),
+        2 => Some(Word::from(a <= b)),
         3 => Some(a.min(b).as_word()),
         4 => Some(a.max(b).as_word()),
-        5 => count(a.is_negative() as u64),
+        5 => Some(Word::from(a.is_negative())),
         _ => return None,
     })
 }
