@@ -6,7 +6,7 @@ use Rattle.evaluate.specs.declared.Unary.{Unary}
 use Rattle.evaluate.specs.declared.Unary.TheVariants as un
 use Rattle.evaluate.specs.declared.Binary.{Binary}
 use Rattle.fold.specs.Operator.{bitwise, any_shift, comparisons}
-use Rattle.fold.specs.Shape.{same_type, is_wide, is_any}
+use Rattle.fold.specs.Shape.{same_type, is_any}
 
 -- Bits or Integer
 abbrev pub is_number : ScalarType → Bool
@@ -20,13 +20,19 @@ is_bits ty.Bool = false
 is_bits (ty.Bits w) = true
 is_bits ty.Integer = false
 
+-- Integer, or Bits(t) with t at least w
+abbrev pub is_extension : ScalarType → ℕ → Bool
+is_extension ty.Bool w = false
+is_extension (ty.Bits t) w = leb w t
+is_extension ty.Integer w = true
+
 -- a unary operator from type s to type t
 abbrev pub unary_typed : Unary → ScalarType → ScalarType → Bool
 unary_typed un.BoolNot s t = same_type s ty.Bool && same_type t ty.Bool
 unary_typed un.BitNot s t = is_bits s && same_type t s
 unary_typed un.Negate s t = same_type s ty.Integer && same_type t ty.Integer
 unary_typed (un.Truncate w) s t = same_type t (ty.Bits w)
-unary_typed (un.SignExtend w) s t = same_type s (ty.Bits w) && is_wide t w
+unary_typed (un.SignExtend w) s t = same_type s (ty.Bits w) && is_extension t w
 unary_typed (un.LeadingZeros w) s t = same_type s (ty.Bits w) && is_number t
 unary_typed (un.TrailingZeros w) s t = same_type s (ty.Bits w) && is_number t
 

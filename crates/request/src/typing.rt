@@ -1,11 +1,10 @@
 // Question 4: does the typing table hold?
 ghost use Rattle.std.specs.Prelude.{◌≡◌};
-ghost use Rattle.request.specs.Typing.{is_number, is_bits, unary_typed, arithmetic, shift, binary_typed, concat_typed};
+ghost use Rattle.request.specs.Typing.{is_number, is_bits, is_extension, unary_typed, arithmetic, shift, binary_typed, concat_typed};
 
 use evaluate::{Binary, Unary};
 use fold::operator;
 use fold::operator::is_bitwise;
-use fold::shape::is_wide;
 use range::ScalarType;
 
 fn is_number(ty: ScalarType) -> bool
@@ -20,6 +19,17 @@ fn is_bits(ty: ScalarType) -> bool
     matches!(ty, ScalarType::Bits(_))
 }
 
+// Integer, or Bits of at least that width. Not fold's `is_wide`, which says the same: the typing table stands in its own words, or a fault in that fold would pass here too.
+fn is_extension(ty: ScalarType, width: u16) -> bool
+    ensures { result ≡ is_extension ty width }
+{
+    match ty {
+        ScalarType::Bool => false,
+        ScalarType::Bits(target) => width <= target,
+        ScalarType::Integer => true,
+    }
+}
+
 pub(crate) fn is_unary_typed(op: Unary, from: ScalarType, to: ScalarType) -> bool
     ensures { result ≡ unary_typed op from to }
 {
@@ -28,7 +38,7 @@ pub(crate) fn is_unary_typed(op: Unary, from: ScalarType, to: ScalarType) -> boo
         Unary::BitNot => is_bits(from) && to == from,
         Unary::Negate => from == ScalarType::Integer && to == ScalarType::Integer,
         Unary::Truncate(width) => to == ScalarType::Bits(width),
-        Unary::SignExtend(width) => from == ScalarType::Bits(width) && is_wide(to, width),
+        Unary::SignExtend(width) => from == ScalarType::Bits(width) && is_extension(to, width),
         Unary::LeadingZeros(width) => from == ScalarType::Bits(width) && is_number(to),
         Unary::TrailingZeros(width) => from == ScalarType::Bits(width) && is_number(to),
     }
