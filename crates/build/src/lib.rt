@@ -1,5 +1,6 @@
 // The six builders: unary, modular, binary, slice, concat and identity call each other, and each entry costs a unit.
 // A builder tests its units, does by itself what it can, and calls others for what is left: so the frames of the recursion are small.
+// Each builder takes what the source's takes, one by one, and so do the calls in native and export.
 #![tactic(auto)]
 
 pub mod range_test;

@@ -34,7 +34,7 @@ pub(crate) enum Start {
     Rest(Rest),
 }
 
-// A masked operation whose mask is a node.
+// A masked operation whose mask is a node: not `Masked` with a type parameter, whose fields stand in another order.
 #[derive(Clone, Copy)]
 pub(crate) struct MaskedNode {
     pub base: NodeId,
@@ -45,7 +45,8 @@ pub(crate) struct MaskedNode {
     pub op: Binary,
 }
 
-// What is left of a builder's work: its answer, or calls of builders.
+// What is left of a builder's work: its answer, or calls of builders. Those that `Plan` has too are named twice: one enum inside both would be named at
+// each place that gives such a plan.
 #[derive(Clone, Copy)]
 pub(crate) enum Next {
     Answer(Result<NodeId, Unbuilt>),

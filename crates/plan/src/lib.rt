@@ -9,7 +9,7 @@ use graph::{NodeId, Operation};
 use range::{Range, ScalarType};
 use word::Word;
 
-// What a builder does next. Offsets are u64, so that no sum of them is too large.
+// What a builder does next, with a builder's arguments one by one, as they are handed to it. Offsets are u64, so that no sum of them is too large.
 #[derive(Clone, Copy)]
 pub enum Plan {
     Give(NodeId),
