@@ -64,10 +64,11 @@ fn unary_bit(op: Unary, id: NodeId, value: NodeId, index: u16) -> BitStep
 fn binary_bit(op: Binary, id: NodeId, mask: Option<Word>, base: NodeId, index: u16) -> BitStep
     ensures { step_of result ≡ given (number_of mask) (λ c. masked_bit op id.0 (has_bit c index) base.0 index) (here (source id.0 index)) }
 {
-    mask.map_or_else(
-        || own(id, index),
-        |constant| masked_bit(op, id, has_bit(constant, index), base, index),
-    )
+    // A match, since this is asked for each bit: `map_or_else` would copy what is handed back.
+    match mask {
+        Some(constant) => masked_bit(op, id, has_bit(constant, index), base, index),
+        None => own(id, index),
+    }
 }
 
 fn operation_bit(g: &Region, id: NodeId, index: u16, operation: Operation) -> BitStep

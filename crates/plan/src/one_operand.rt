@@ -104,10 +104,11 @@ fn unary_open(g: &Region, ty: ScalarType, op: Unary, value: NodeId) -> First
 pub fn unary_first(g: &Region, ty: ScalarType, op: Unary, value: NodeId) -> First
     ensures { first_of result ≡ unary_first g.now ty op value.0 }
 {
-    literal(g, value).map_or_else(
-        || unary_open(g, ty, op, value),
-        |constant| First::Do(constant_or_none(ty, unary_value(op, constant))),
-    )
+    // A match: `map_or_else` copies what is handed back, at three instructions a call.
+    match literal(g, value) {
+        Some(constant) => First::Do(constant_or_none(ty, unary_value(op, constant))),
+        None => unary_open(g, ty, op, value),
+    }
 }
 
 // Down a chain of Refines to the first source of the type, or to where the chain starts.

