@@ -43,13 +43,6 @@ fn evaluated(
     }
 }
 
-fn range_of(min: Word, max: Word) -> Range {
-    Range {
-        min: min.as_signed(),
-        max: max.as_signed(),
-    }
-}
-
 // A code that no question has is malformed.
 pub(crate) fn answer_of(vector: Vector) -> Option<Result<Reply, Refusal>> {
     let Vector {
@@ -61,8 +54,8 @@ pub(crate) fn answer_of(vector: Vector) -> Option<Result<Reply, Refusal>> {
         c,
         d,
     } = vector;
-    let first = range_of(a, b);
-    let second = range_of(c, d);
+    let first = Range::of_patterns(a, b);
+    let second = Range::of_patterns(c, d);
     if code < RULES {
         Some(evaluated(operator_of(code, width)?, ty, a, b).map(Reply::Pattern))
     } else if code < FUNCTIONS {
