@@ -64,7 +64,7 @@ fn halves_of(word: Word) -> [u64; 2]
     [word.lo, word.hi]
 }
 
-// A value goes into a slice of two words.
+// A value goes into a slice of two words. `write_guard` has the same match: one function over arrays would take a definition of its own, beside both.
 fn write_value(out: &mut [u64], value: Result<Option<Word>, Refusal>) -> u64
     ensures { exported result out.new ≡ written (outcome_of value) out.old }
 {

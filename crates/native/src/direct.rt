@@ -1,5 +1,6 @@
 // The builders as a call makes them. Most operations fold to nothing: their plan is one node, and it is added at once.
 // What else a builder hands on, from step to step, costs more time than deciding; so only the others are built.
+// The three ends are alike, but what each promises names its own plan and builder: one function over a closure would say both ways of ending in its contract.
 ghost use Rattle.std.specs.Prelude.{not, ◌&&◌, ◌≡◌, eqb};
 ghost use Rattle.word.specs.Option.{is_some};
 ghost use Rattle.range.specs.declared.ScalarType.TheVariants as type;

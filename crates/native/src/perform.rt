@@ -137,7 +137,7 @@ fn perform(g: &mut Region, request: Request, full: Refusal) -> Result<Answer, Re
 }
 
 // For a caller that knows the region to be a graph: question 1 is not asked. On another region nothing is promised.
-// The fact is a clause in every `.._in_graph`: a struct that holds the region with it has to show it again after the call, and that a builder leaves every graph a
+// The fact is a clause in every `.._in_graph` that writes: a struct that holds the region with it has to show it again after the call, and that a builder leaves every graph a
 // graph is proved of grown graphs alone (`grown-graph` in meaning/proofs/Demand3.antt).
 #[tactic(auto, unfolding(crate::specs::Perform::request_in_graph))]
 pub fn call_in_graph(g: &mut Region, request: Request) -> Result<Answer, Refusal>

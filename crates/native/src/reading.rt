@@ -1,8 +1,7 @@
-// The calls that read: literal, resolve and guard. Each `.._in_graph` is for a caller that knows the region to be a graph: on another
-// region nothing is promised of it. The fact is a clause, as in the calls that write (perform.rt).
-ghost use Rattle.std.specs.Prelude.{true, ◌≡◌};
+// The calls that read: literal, resolve and guard. Each `.._in_graph` is for a caller that knows the region to be a graph: question 1 is not asked. It
+// requires nothing: whatever the words are, it reads within the region, and answers what its definition says of them.
+ghost use Rattle.std.specs.Prelude.{◌≡◌};
 ghost use Rattle.evaluate.specs.Answer.{outcome_of};
-ghost use Rattle.graph.specs.WellFormed.{is_graph};
 ghost use Rattle.native.specs.Call.{answer_of, literal_call, literal_in_graph, resolve_call, resolve_in_graph};
 ghost use Rattle.native.specs.Guard.{reading_of, guard_in_graph, guard_call};
 
@@ -19,7 +18,6 @@ use word::Word;
 // The value of a constant, or None.
 #[tactic(auto, unfolding(crate::specs::Call::literal_in_graph), using(crate::proofs::Parts::value_answered))]
 pub fn literal_in_graph(g: &Region, id: NodeId) -> Result<Option<Word>, Refusal>
-    requires { is_graph g.now ≡ true }
     ensures { outcome_of result ≡ literal_in_graph g.now id.0 }
 {
     if id.0 < count(g) {
@@ -40,7 +38,6 @@ pub fn literal(g: &[u64], id: NodeId) -> Result<Option<Word>, Refusal>
 // The node that stands for this one now.
 #[tactic(auto, unfolding(crate::specs::Call::resolve_in_graph))]
 pub fn resolve_in_graph(g: &Region, id: NodeId) -> Result<Answer, Refusal>
-    requires { is_graph g.now ≡ true }
     ensures { answer_of result ≡ resolve_in_graph g.now id.0 }
 {
     if id.0 < count(g) {
@@ -65,7 +62,6 @@ pub fn guard_in_graph(
     condition: NodeId,
     expected: bool,
 ) -> Result<Option<Guard>, Refusal>
-    requires { is_graph g.now ≡ true }
     ensures { reading_of result ≡ guard_in_graph g.now condition.0 expected }
 {
     if count(g) <= condition.0 {
