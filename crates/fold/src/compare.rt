@@ -13,6 +13,7 @@ fn apart(a: Range, b: Range) -> bool
     a.max < b.min || b.max < a.min
 }
 
+// This and the next two are of one shape. A function of both answers would make the second comparison where the first decides.
 fn equal_ranges(a: Range, b: Range) -> Option<bool>
     ensures { result ≡ equal_ranges (bounds_of a) (bounds_of b) }
 {

@@ -46,7 +46,7 @@ fn are_marks(m: &Marks, nodes: u64) -> bool
     true
 }
 
-// Question 1 of both regions.
+// Question 1 of both regions. A match on the pair: in a closure of `is_some_and` it is not known that the graph's count is at most LIMIT.
 #[tactic(auto, using(graph::proofs::Grown::graph_facts, crate::proofs::Facts::short_marks), unfolding(crate::specs::WellFormed::is_marked))]
 pub fn is_marked(g: &[u64], m: &[u64]) -> bool
     ensures { result ≡ is_marked g.now m.now }

@@ -87,7 +87,7 @@ impl Memory {
     }
 
     // Runs a block's records and writes their lines, until no whole record is left. So many bytes of the block are done, and the others wait
-    // for more; none where a bad record ends reading.
+    // for more; none where a bad record ends reading. No `for`: each run says how far it came.
     fn drain(
         &mut self,
         mut stdout: Stdout,
