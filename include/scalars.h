@@ -66,7 +66,7 @@ extern "C" {
 //
 // Stack
 //
-// No call was found that needs more than 497 KB: less than 490 bytes for each of its 1,024 units (a unit is one entry into a builder),
+// No call was found that needs more than 448 KB: less than 445 bytes for each of its 1,024 units (a unit is one entry into a builder),
 // and the call's own frames. This is measured and not proved; tests/stack/run measures it again, and runs the worst calls found with a
 // stack of 512 KB.
 

@@ -4,7 +4,7 @@
 //! What is proved of the library's calls (docs/CALLS.md, docs/PROOF.md) is not proved of this crate, which is tested: by
 //! its own examples, by the differential driver, and by the original's linear.rs compiled against it.
 //!
-//! A call needs at most some 497 KB of stack: less than 490 bytes for each of its 1,024 units, and the call's own frames
+//! A call needs at most some 448 KB of stack: less than 445 bytes for each of its 1,024 units, and the call's own frames
 //! (measured, not proved; README.md).
 //!
 //! What is not as in the original:
