@@ -14,8 +14,8 @@ use graph::layout::Region;
 fn refine_both(g: &mut Region, a: NodeId, b: NodeId, limits: Pair) -> Result<Outcome, Full>
     ensures { assumed (outcome_of result) g.new ≡ refined_both g.old a.0 b.0 (pair_of limits) }
 {
-    let first = refine(g, Outcome::Unchanged, a, limits.left)?;
-    refine(g, first, b, limits.right)
+    let first = refine(g, Ok(Outcome::Unchanged), a, limits.left)?;
+    refine(g, Ok(first), b, limits.right)
 }
 
 // A condition, which is not resolved.

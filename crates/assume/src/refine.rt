@@ -1,5 +1,5 @@
 // Refining a node to limits (assume.rs 26 to 79).
-ghost use Rattle.std.specs.Prelude.{◌≡◌, Ok};
+ghost use Rattle.std.specs.Prelude.{◌≡◌};
 ghost use Rattle.range.specs.Interval.{bounds_of};
 ghost use Rattle.assume.specs.Limits.{limits_of};
 ghost use Rattle.assume.specs.Refine.{outcome_of, step_of, narrowing_of, narrow, refine_step, assumed, refined};
@@ -43,11 +43,11 @@ fn refine_step(g: &mut Region, node: NodeId, limits: Limits) -> Result<Step, Ful
 // A node refined to limits, then the base of the sum that it is, and so on.
 pub fn refine(
     g: &mut Region,
-    so_far: Outcome,
+    so_far: Result<Outcome, Full>,
     node: NodeId,
     limits: Limits,
 ) -> Result<Outcome, Full>
-    ensures { assumed (outcome_of result) g.new ≡ refined (outcome_of (Ok so_far)) g.old node.0 (limits_of limits) }
+    ensures { assumed (outcome_of result) g.new ≡ refined (outcome_of so_far) g.old node.0 (limits_of limits) }
 {
     let mut done = so_far;
     let mut at = node;
@@ -55,14 +55,14 @@ pub fn refine(
     for _ in 0..LIMIT {
         let target = resolve(g, at);
         let Step::Narrowed(next) = refine_step(g, target, wanted)? else {
-            return Ok(done);
+            return done;
         };
-        done = Outcome::Narrowed;
+        done = Ok(Outcome::Narrowed);
         let Some(more) = next else {
-            return Ok(done);
+            return done;
         };
         at = more.node;
         wanted = limited_to(more.range);
     }
-    Ok(done)
+    done
 }

@@ -166,16 +166,14 @@ fn write_guard(out: &mut [u64], found: Result<Option<Guard>, Refusal>) -> u64
 
 // Question 3, then what the expected answer's number names.
 #[tactic(auto, unfolding(crate::specs::Reading::guard_by_number))]
-fn guard_by_number(g: &[u64], condition: u64, expected: u64) -> Result<Option<Guard>, Refusal>
-    requires { is_graph g.now ≡ true }
+fn guard_by_number(g: &Region, condition: u64, expected: u64) -> Result<Option<Guard>, Refusal>
     ensures { reading_of result ≡ guard_by_number g.now condition expected }
 {
-    let graph = region_of(g);
-    if count(graph) <= condition {
+    if count(g) <= condition {
         return Err(Refusal::Id);
     }
     let wanted = truth_by_number(expected).ok_or(Refusal::Typing)?;
-    reading::guard_in_graph(graph, NodeId(condition), wanted)
+    reading::guard_in_graph(g, NodeId(condition), wanted)
 }
 
 // The guard of a condition: 1 and its words; None; or a refusal.
@@ -189,7 +187,7 @@ pub extern "C" fn scalars_guard_in_graph(
     requires { is_graph g.now ≡ true }
     ensures { exported result out.new ≡ guard_written (guard_by_number g.now condition expected) out.old }
 {
-    write_guard(out, guard_by_number(g, condition, expected))
+    write_guard(out, guard_by_number(region_of(g), condition, expected))
 }
 
 #[tactic(auto, unfolding(crate::specs::Reading::guard_numbered))]

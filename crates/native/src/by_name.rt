@@ -1,6 +1,6 @@
 // The requests by name, each in two tiers: `.._in_graph` is for a caller that knows the region to be a graph, as `call_in_graph` says.
 // No crate here calls the nine of that tier: they are for users of the Rust library who own a region and have changed it by these calls alone, as
-// docs/CALLS.md says, and beside each stands its twin without a `requires`.
+// docs/CALLS.md says of what C calls, and beside each stands its twin without a `requires`.
 ghost use Rattle.std.specs.Prelude.{true, ◌≡◌};
 ghost use Rattle.word.specs.Value.{val};
 ghost use Rattle.range.specs.Interval.{interval_of};

@@ -19,7 +19,7 @@ fn is_bits(ty: ScalarType) -> bool
     matches!(ty, ScalarType::Bits(_))
 }
 
-// Integer, or Bits of at least that width. Not fold's `is_wide`, which says the same: the typing table stands in its own words, or a fault in that fold would pass here too.
+// Integer, or Bits of at least that width. Not fold's `is_wide`, which says the same: question 4 has a definition of its own, and a lemma that the two agree would be as long as this.
 fn is_extension(ty: ScalarType, width: u16) -> bool
     ensures { result ≡ is_extension ty width }
 {

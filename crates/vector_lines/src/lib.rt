@@ -87,7 +87,7 @@ pub fn put_word(w: Word, out: &mut [u8]) -> usize
 
 // Fills a block with what a reader gives, and answers how many bytes came, and whether a read failed: the bytes are the next ones of the reader,
 // in their order. Where no read failed there are fewer than the block holds at the reader's end alone. The rest of the block may be anything.
-pub fn read_full<R: Read>(reader: &mut R, block: &mut [u8]) -> (usize, Result<()>)
+fn read_block<R: Read>(reader: &mut R, block: &mut [u8]) -> (usize, Result<()>)
     ensures in_bounds { result.0 ≤ length block.old }
     ensures bytes { Consumes (R.remaining reader.old) (R.remaining reader.new) (take result.0 block.new) }
     ensures end { OnOk result.1 (result.0 < length block.old → IsAtEnd (R.remaining reader.new)) }
@@ -102,6 +102,16 @@ pub fn read_full<R: Read>(reader: &mut R, block: &mut [u8]) -> (usize, Result<()
         }
     }
     (at, Ok(()))
+}
+
+// Fills a block with what a reader gives, and answers how many bytes came: they are the next ones of the reader, in their order. There are fewer
+// than the block holds at the reader's end, or where a read fails. The rest of the block may be anything.
+pub fn read_full<R: Read>(reader: &mut R, block: &mut [u8]) -> usize
+    ensures in_bounds { result ≤ length block.old }
+    ensures bytes { Consumes (R.remaining reader.old) (R.remaining reader.new) (take result block.new) }
+{
+    let (n, _) = read_block(reader, block);
+    n
 }
 
 // Puts the digits of a word and a line end at the start of out, and answers how many bytes they have.
@@ -151,8 +161,8 @@ fn answer_lines<F: FnMut(&[u8], &mut [u8]) -> Option<usize>>(
 }
 
 // Replays test vectors: reads lines of `size` bytes, as many at a time as block holds, and writes their answers, which out has room for. It stops
-// at a line that has no answer and at the reader's end, and with an error where a read or a write fails. `answer` puts a line's answer at the
-// start of a slice, and answers where it ends. A line's size is no const parameter, which a bound `FnMut` cannot name: so `0 < size` is a clause.
+// at a line that has no answer and at the reader's end, and with an error where a read or a write fails, or where a block holds no line. `answer`
+// puts a line's answer at the start of a slice, and answers where it ends. A line's size is no const parameter, which a bound `FnMut` cannot name.
 pub fn replay<R: Read, W: Write, F: FnMut(&[u8], &mut [u8]) -> Option<usize>>(
     reader: &mut R,
     writer: &mut W,
@@ -161,15 +171,17 @@ pub fn replay<R: Read, W: Write, F: FnMut(&[u8], &mut [u8]) -> Option<usize>>(
     out: &mut [u8],
     mut answer: F,
 ) -> Result<()>
-    requires some_byte { 0 < size }
     requires callable { F.IsAlwaysCallable answer }
     ensures { OnOk result (Replays F.FnMut size answer (R.remaining reader.old) (R.remaining reader.new) (W.contents writer.old) (W.contents writer.new)) }
 {
+    if size == 0 || block.len() < size {
+        return Err(ErrorKind::InvalidInput.into());
+    }
     let whole = block.len() - block.len() % size;
     let block = &mut block[..whole];
     // A proved loop has to end: no run takes so many turns.
     for _ in 0..u64::MAX {
-        let (n, read) = read_full(reader, block);
+        let (n, read) = read_block(reader, block);
         let answered = answer_lines(&block[..n], size, out, &mut answer);
         writer.write_all(&out[..answered.len])?;
         read?;

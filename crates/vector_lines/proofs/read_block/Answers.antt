@@ -1,10 +1,10 @@
--- `vector_lines::read_full` meets its contract: what one read gives comes behind what was given before.
+-- `vector_lines::read_block` meets its contract: what one read gives comes behind what was given before.
 use Rattle.std.proofs.Common.{◌≡◌, ◌-◌, arith, length, take, drop, ◌∙◌, subst, length-take-le, length-drop}
 use Rattle.std.proofs.KnownBytes.{Consumes-trans}
 use Rattle.std.specs.Io.KnownBytes.{Consumes}
 use borrow.Rule.Slice.PartMut.{same_len_mid}
 use Rattle.vector_lines.proofs.Replaying.{front}
-use Rattle.vector_lines.proofs.read_full.Goals as goal
+use Rattle.vector_lines.proofs.read_block.Goals as goal
 
 pub loop-at-preserved : goal.loop-at-preserved
 loop-at-preserved g c =

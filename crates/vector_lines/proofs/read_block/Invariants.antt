@@ -1,8 +1,8 @@
--- The invariant of `vector_lines::read_full`: `at` lies within the block, which keeps its length, and its first `at` bytes are what the reader
+-- The invariant of `vector_lines::read_block`: `at` lies within the block, which keeps its length, and its first `at` bytes are what the reader
 -- has given. The measure is what is left of the block.
 use Rattle.std.proofs.Common.{◌≡◌, ◌≤◌, ◌-◌, length, take}
 use Rattle.std.specs.Io.KnownBytes.{Consumes}
-use Rattle.vector_lines.proofs.read_full.Given as goal
+use Rattle.vector_lines.proofs.read_block.Given as goal
 
 abbrev pub invariant-loop-at : goal.invariant-loop-at
 invariant-loop-at g l =
