@@ -49,7 +49,7 @@ WRONG = [
      "fits (w - 1) r", "fits w r"),
     ("an identity to Integer of a negative range", "plan", "OneOperand",
      "cond (not_negative r) (plan.add ty.Integer r (node.refine v)) plan.stop", "plan.add ty.Integer r (node.refine v)"),
-    ("a narrower reduction passed over", "plan", "OneOperand",
+    ("a narrower reduction passed over", "fold", "Shape",
      "is_wide (ty.Bits v) w = leb w v", "is_wide (ty.Bits v) w = true"),
     ("a slice of the concat's high part not moved down", "plan_slice", "Slice",
      "(plan.slice high (o - v) w)", "(plan.slice high o w)"),
