@@ -176,8 +176,10 @@ def used(text):
 
 def types_of(text):
     """The types of a source file with their derives, and the `use` lines that they need."""
-    found = re.findall(r"(?:^(?://|#\[)[^\n]*\n)*^(?:pub(?:\(crate\))? )?(?:enum|struct) \w+\s*(?:\([^)]*\);|\{.*?^\})", text, re.M | re.S)
-    named = [path for path in used(text) if re.search(r"\b%s\b" % path.rpartition("::")[2], "\n".join(found))]
+    found = re.findall(r"(?:^(?://|#\[)[^\n]*\n)*^(?:pub(?:\(crate\))? )?(?:enum|struct) \w+\s*(?:\([^)]*\);|;|\{.*?^\})", text, re.M | re.S)
+    # Comparisons are code: those of `Word` and `Signed` are not there to derive others from. A name before a parenthesis is a variant's.
+    found = [re.sub(r", (?:PartialEq|Eq|PartialOrd|Ord)\b", "", it) for it in found]
+    named = [path for path in used(text) if re.search(r"\b%s\b(?!\()" % path.rpartition("::")[2], "\n".join(found))]
     return "".join(f"use {path};\n" for path in named) + "\n" + "\n\n".join(found) + "\n" if found else ""
 
 
