@@ -1,6 +1,6 @@
 // The text of a vector, and of an answer.
 // A vector: two hex digits of the code, two of the type, two of the width, and 32 of each of the four operands.
-// After each field stands a space, and after the last one a line end.
+// After each field stands a space, and after the last one a line end. The fields stand at fixed places, so that a reader that splits them off would say no more.
 ghost use Rattle.std.specs.Prelude.{◌≡◌, ◌≤◌, IfSome, length};
 
 use crate::answers::{Reply, Vector, answer_of};

@@ -45,7 +45,7 @@ pub fn first_length(bytes: &[u8]) -> Option<usize>
     Some(HEADER + body)
 }
 
-// The tag of a record whose body has just the length that it says.
+// The tag of a record whose body has just the length that it says. The tag alone, as its definition: the body is what stands behind the header, and is cut off where it is read.
 fn tag_in(bytes: &[u8]) -> Option<u8>
     ensures { result ≡ tag_in bytes.now }
 {

@@ -1,5 +1,6 @@
 // The text of a vector, and of an answer.
 // A vector: two hex digits of the operation's code, a space, 32 of the left operand, a space, 32 of the right one, a line end.
+// The fields stand at fixed places, so that a reader that splits them off would say no more.
 ghost use Rattle.std.specs.Prelude.{◌≤◌, IfSome, length};
 
 use crate::answers::{Answer, answer_of};
