@@ -6,7 +6,7 @@ use native.Mathlib.Nat.{pow-suc, pow-le-pow_right, lt_of_lt_of_le, zero-lt-suc, 
 use native.Mathlib.Omega.{arith}
 use lib.ListN.{length, take, drop, take-append-drop, length-drop}
 use lib.Seq.{get_or-drop, length-take-le, take_all}
-use Rattle.std.specs.Int.{w16, w64, from_le_bytes}
+use Rattle.std.specs.Int.{w64, from_le_bytes}
 use Rattle.record.specs.Record.{little, Bytes}
 
 pub bytes_drop : (k : ℕ) (bs : List ℕ) → Bytes bs → Bytes (drop k bs)
@@ -27,13 +27,7 @@ little-append (x ∷ xs) ys =
     let e : 256 * (256 ^ length xs * little ys) ≡ 256 ^ suc (length xs) * little ys = sym (mul_assoc 256 (256 ^ length xs) (little ys)) ∙ ap (λ (n : ℕ). n * little ys) (omega (arith, pow-suc 256 (length xs))) in
     omega (arith, little-append xs ys, e)
 
--- std's words for two and for eight bytes
-pub little_2 : (bs : List ℕ) → length bs ≡ 2 → from_le_bytes w16 bs ≡ little bs
-little_2 [] e = absurd (omega arith)
-little_2 (a ∷ []) e = absurd (omega arith)
-little_2 (a ∷ b ∷ []) e = omega arith
-little_2 (a ∷ b ∷ c ∷ bs) e = absurd (omega arith)
-
+-- std's word for eight bytes
 pub little_8 : (bs : List ℕ) → length bs ≡ 8 → from_le_bytes w64 bs ≡ little bs
 little_8 (a ∷ b ∷ c ∷ d ∷ i ∷ j ∷ k ∷ l ∷ []) e = omega arith
 little_8 _ e = absurd (omega arith)
