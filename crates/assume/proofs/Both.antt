@@ -1,4 +1,4 @@
--- What assuming a guard does, and whether it would narrow a node, by what it says of both operands. Assumes nothing.
+-- What assuming a guard does, by what it says of both operands. Assumes nothing.
 use mathlib.Core.Path.{◌≡◌, refl}
 use mathlib.Core.Bool.{Bool, true, false, cond}
 use mathlib.Core.List.{List}
@@ -11,7 +11,6 @@ use Rattle.guard.specs.Condition.{behind_nots, Comparison, comparison_at}
 use Rattle.assume.specs.Limits.{Pair, comparable, limits_by}
 use Rattle.assume.specs.Refine.{unchanged, assumed}
 use Rattle.assume.specs.Assume.{refined_both, assumed_by, assumed_of, assumed_guard}
-use Rattle.assume.specs.Narrowing.{narrows_either, narrows_by, narrows_of, is_narrowing}
 use Rattle.assume.specs.Sides.{Sides, both, sides_by, sides_at, sides}
 
 -- what is done with both sides, if they are there
@@ -39,19 +38,3 @@ module _ (g : List ℕ) where
   pub assumed_sides : (n : ℕ) (e : Bool) → assumed_guard g n e ≡ given (sides g n e) (λ s. refined_both g s.left s.right s.limits) (assumed unchanged g)
   unfolding assumed_guard sides
   assumed_sides n e = assumed_compared (behind_nots g n e).expected (comparison_at g (behind_nots g n e).node)
-
-  narrows_ranges : (e : Bool) (o : Binary) (a b : ℕ) (x y : Option Interval)
-      → narrows_by g e o a b x y ≡ by_sides (narrows_either g) false (sides_by e o a b x y)
-  narrows_ranges e o a b None y = refl
-  narrows_ranges e o a b (Some x) None = refl
-  narrows_ranges e o a b (Some x) (Some y) = by_test (narrows_either g) false (comparable o x y) a b (limits_by o e x y)
-
-  narrows_compared : (e : Bool) (x : Option Comparison)
-      → given x (narrows_of g e) false ≡ by_sides (narrows_either g) false (given x (sides_at g e) None)
-  unfolding narrows_of
-  narrows_compared e None = refl
-  narrows_compared e (Some c) = narrows_ranges e c.op _ _ _ _
-
-  pub narrowing_sides : (n : ℕ) (e : Bool) → is_narrowing g n e ≡ given (sides g n e) (λ s. narrows_either g s.left s.right s.limits) false
-  unfolding is_narrowing sides
-  narrowing_sides n e = narrows_compared (behind_nots g n e).expected (comparison_at g (behind_nots g n e).node)

@@ -1,20 +1,20 @@
--- A guard that would narrow no node does nothing. Assumes nothing.
-use mathlib.Core.Path.{◌≡◌, refl, sym, ap}
+-- A guard refines what it narrows, and does nothing where it narrows nothing. Assumes nothing.
+use mathlib.Core.Path.{◌≡◌, refl, sym, ap, ◌∙◌}
 use mathlib.Core.Bool.{Bool, true, false, cond, ◌||◌, false≢true}
 use mathlib.Core.List.{List}
 use Rattle.std.specs.Prelude.{Option, None, Some}
 use Prim.Native.Nat.{ℕ, ◌-◌}
-use Rattle.word.specs.Option.{given}
+use Rattle.word.specs.Option.{only, given}
 use Rattle.range.specs.Interval.{Interval}
-use Rattle.evaluate.specs.declared.Binary.{Binary}
 use Rattle.graph.specs.Layout.{LIMIT}
 use Rattle.graph.specs.Node.{type_at, range_at}
 use Rattle.graph.specs.Insert.{resolve}
-use Rattle.guard.specs.Condition.{behind_nots, Comparison, comparison_at}
-use Rattle.assume.specs.Limits.{Limits, Pair, meet, narrows, comparable, limits_by}
-use Rattle.assume.specs.Refine.{Outcome, unchanged, narrowed, Step, step, narrow, refine_step, assumed, go_on, refine_up_to, refined}
-use Rattle.assume.specs.Assume.{refined_both, assumed_by, assumed_of, assumed_guard}
-use Rattle.assume.specs.Narrowing.{narrows_at, narrows_either, narrows_by, narrows_of, is_narrowing}
+use Rattle.assume.specs.Limits.{Limits, Pair, meet, narrows}
+use Rattle.assume.specs.Refine.{Outcome, unchanged, narrowed, Step, step, narrow, refine_step, Assumed, assumed, go_on, refine_up_to, refined}
+use Rattle.assume.specs.Assume.{refined_both, assumed_guard}
+use Rattle.assume.specs.Narrowing.{narrows_at, narrows_either, narrowing}
+use Rattle.assume.specs.Sides.{Sides, sides}
+use Rattle.assume.proofs.Both.{assumed_sides}
 
 module _ (g : List ℕ) where
   -- one node: no step is taken
@@ -42,24 +42,18 @@ module _ (g : List ℕ) where
       let d = neither (narrows_at g a p.left) (narrows_at g b p.right) e in
       rw (refined_idle unchanged a p.left d.0) (refined_idle unchanged b p.right d.1)
 
-  by_idle : (e : Bool) (o : Binary) (a b : ℕ) (x y : Option Interval) → narrows_by g e o a b x y ≡ false → assumed_by g e o a b x y ≡ assumed unchanged g
-  by_idle e o a b None y q = refl
-  by_idle e o a b (Some x) None q = refl
-  by_idle e o a b (Some x) (Some y) q = by (comparable o x y) q
-    where
-      by : (t : Bool) → cond t (narrows_either g a b (limits_by o e x y)) false ≡ false → cond t (refined_both g a b (limits_by o e x y)) (assumed unchanged g) ≡ assumed unchanged g
-      by true z = both_idle a b (limits_by o e x y) z
-      by false z = refl
+  -- what a guard narrows is what it refines
+  abbrev refines : Option Sides → Assumed
+  refines o = given o (λ s. refined_both g s.left s.right s.limits) (assumed unchanged g)
 
-  of_idle : (e : Bool) (c : Comparison) → narrows_of g e c ≡ false → assumed_of g e c ≡ assumed unchanged g
-  unfolding narrows_of assumed_of
-  of_idle e c = by_idle e c.op (resolve g c.left) (resolve g c.right) (range_at g (resolve g c.left)) (range_at g (resolve g c.right))
-
-  pub guard_idle : (n : ℕ) (e : Bool) → is_narrowing g n e ≡ false → assumed_guard g n e ≡ assumed unchanged g
-  unfolding is_narrowing assumed_guard
-  guard_idle n e = by (comparison_at g (behind_nots g n e).node)
+  narrows_refines : (o : Option Sides) → refines o ≡ refines (given o (λ s. only (narrows_either g s.left s.right s.limits) s) None)
+  narrows_refines None = refl
+  narrows_refines (Some s) = by (narrows_either g s.left s.right s.limits) refl
     where
-      by : (o : Option Comparison) → given o (narrows_of g (behind_nots g n e).expected) false ≡ false
-          → given o (assumed_of g (behind_nots g n e).expected) (assumed unchanged g) ≡ assumed unchanged g
-      by None q = refl
-      by (Some c) q = of_idle (behind_nots g n e).expected c q
+      by : (t : Bool) → narrows_either g s.left s.right s.limits ≡ t → refined_both g s.left s.right s.limits ≡ refines (only t s)
+      by true e = refl
+      by false e = both_idle s.left s.right s.limits e
+
+  pub guard_narrowing : (n : ℕ) (e : Bool) → assumed_guard g n e ≡ given (narrowing g n e) (λ s. refined_both g s.left s.right s.limits) (assumed unchanged g)
+  unfolding narrowing
+  guard_narrowing n e = assumed_sides g n e ∙ narrows_refines (sides g n e)

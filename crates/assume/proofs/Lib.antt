@@ -3,5 +3,5 @@ pub mod Below
 pub mod Same
 pub mod Grows
 pub mod Steps
-pub mod Idle
 pub mod Both
+pub mod Idle

@@ -13,7 +13,7 @@ use Rattle.graph.specs.Insert as insert
 use Rattle.graph.specs.Insert.{Reply, resolve, inserted}
 use Rattle.graph.proofs.Restored.{Same, inserted_same, aliased_same}
 use Rattle.guard.specs.Condition.{behind_nots, Comparison, comparison_at}
-use Rattle.assume.specs.Limits.{Limits, limited_to, meet, narrows, comparable, limits_by}
+use Rattle.assume.specs.Limits.{Limits, Pair, limited_to, meet, narrows, comparable, limits_by}
 use Rattle.assume.specs.Refine.{Next, Outcome, unchanged, narrowed, full, assumed, alias_to, narrow, step, refine_step, go_on, refine_up_to, refined}
 use Rattle.assume.specs.Assume.{then_refined, refined_both, assumed_by, assumed_of, assumed_guard}
 
@@ -41,21 +41,28 @@ module _ (P : List ℕ → Type 0) (N : List ℕ → ℕ → Type 0)
   unfolding refined
   refined_keeps so h n l p q = some-keep LIMIT so h n l p q
 
-  -- a guard, if its two nodes stay what they are to be
-  pub assumed_keeps : (g : List ℕ) (n : ℕ) (e : Bool) → P g
-      → ((c : Comparison) → comparison_at g (behind_nots g n e).node ≡ Some c
-      → (h : List ℕ) → P h → N h (resolve g c.left) × N h (resolve g c.right))
-      → P (assumed_guard g n e).words
-  unfolding assumed_guard assumed_of refined_both
-  assumed_keeps g n e p q = by (comparison_at g (behind_nots g n e).node) q
+  -- both operands, if they stay what they are to be
+  both_keep : (g : List ℕ) (a b : ℕ) (p : Pair) → P g → ((h : List ℕ) → P h → N h a × N h b) → P (refined_both g a b p).words
+  unfolding refined_both
+  both_keep g a b p q t =
+      let r = refined_keeps unchanged g a p.left q (t g q).0 in
+      then (refined unchanged g a p.left).outcome _ b p.right r (t _ r).1
     where
-      d : Bool
-      d = (behind_nots g n e).expected
-
       then : (o : Outcome) (h : List ℕ) (b : ℕ) (l : Limits) → P h → N h b → P (then_refined o h b l).words
       then unchanged h b l r t = refined_keeps unchanged h b l r t
       then narrowed h b l r t = refined_keeps narrowed h b l r t
       then full h b l r t = r
+
+  -- a guard
+  pub assumed_keeps : (g : List ℕ) (n : ℕ) (e : Bool) → P g
+      → ((c : Comparison) → comparison_at g (behind_nots g n e).node ≡ Some c
+      → (h : List ℕ) → P h → N h (resolve g c.left) × N h (resolve g c.right))
+      → P (assumed_guard g n e).words
+  unfolding assumed_guard assumed_of
+  assumed_keeps g n e p q = by (comparison_at g (behind_nots g n e).node) q
+    where
+      d : Bool
+      d = (behind_nots g n e).expected
 
       both : (c : Comparison) → ((h : List ℕ) → P h → N h (resolve g c.left) × N h (resolve g c.right)) → (x y : Option Interval)
           → P (assumed_by g d c.op (resolve g c.left) (resolve g c.right) x y).words
@@ -65,9 +72,7 @@ module _ (P : List ℕ → Type 0) (N : List ℕ → ℕ → Type 0)
         where
           test : (z : Bool)
               → P (cond z (refined_both g (resolve g c.left) (resolve g c.right) (limits_by c.op d x y)) (assumed unchanged g)).words
-          test true =
-              let r = refined_keeps unchanged g (resolve g c.left) (limits_by c.op d x y).left p (t g p).0 in
-              then (refined unchanged g (resolve g c.left) (limits_by c.op d x y).left).outcome _ _ _ r (t _ r).1
+          test true = both_keep g (resolve g c.left) (resolve g c.right) (limits_by c.op d x y) p t
           test false = p
 
       by : (x : Option Comparison)
@@ -105,8 +110,12 @@ module _ {k : ℕ} {g h : List ℕ} (s : Same k g h) where
 abbrev Any : List ℕ → ℕ → Type 0
 Any h n = Unit {0}
 
-module _ {k : ℕ} {g : List ℕ} where
+module _ {k : ℕ} {g h : List ℕ} (s : Same k g h) where
+  -- both operands refined keep them
+  pub both_same : (a b : ℕ) (p : Pair) → Same k g (refined_both h a b p).words
+  both_same a b p = both_keep (Same k g) Any (λ w m j p q. step_same p (resolve w m) j) (λ w m j p q x z. tt) h a b p s (λ w p. (tt, tt))
+
   -- a guard keeps them
-  pub assumed_same : {h : List ℕ} → Same k g h → (n : ℕ) (e : Bool) → Same k g (assumed_guard h n e).words
-  assumed_same {h} s n e =
+  pub assumed_same : (n : ℕ) (e : Bool) → Same k g (assumed_guard h n e).words
+  assumed_same n e =
       assumed_keeps (Same k g) Any (λ w m j p q. step_same p (resolve w m) j) (λ w m j p q x z. tt) h n e s (λ c z w p. (tt, tt))

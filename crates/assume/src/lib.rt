@@ -27,7 +27,7 @@ pub struct Pair {
 
 // Two operands, and their limits.
 #[derive(Clone, Copy)]
-pub(crate) struct Sides {
+pub struct Sides {
     pub left: NodeId,
     pub right: NodeId,
     pub limits: Pair,

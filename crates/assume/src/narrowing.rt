@@ -1,7 +1,7 @@
-// Would a guard narrow a node? Where it would not, it writes nothing.
+// What a guard would narrow. Where it would narrow nothing, it writes nothing.
 ghost use Rattle.std.specs.Prelude.{◌≡◌};
 ghost use Rattle.assume.specs.Limits.{limits_of};
-ghost use Rattle.assume.specs.Narrowing.{narrows_at, is_narrowing};
+ghost use Rattle.assume.specs.Narrowing.{narrows_at, narrowing};
 ghost use Rattle.assume.specs.Sides.{sides_of, sides};
 
 use crate::limit::{comparable, limits_by, meet, narrows};
@@ -23,7 +23,7 @@ fn narrows_at(g: &Region, node: NodeId, limits: Limits) -> bool
 
 // Both operands of a condition, which are resolved, and their limits by the ranges that they have.
 #[tactic(auto, unfolding(crate::specs::Sides::sides))]
-pub(crate) fn sides(g: &Region, condition: NodeId, expected: bool) -> Option<Sides>
+fn sides(g: &Region, condition: NodeId, expected: bool) -> Option<Sides>
     ensures { sides_of result ≡ sides g.now condition.0 expected }
 {
     let Condition { node, expected } = behind_nots(g, condition, expected);
@@ -39,12 +39,12 @@ pub(crate) fn sides(g: &Region, condition: NodeId, expected: bool) -> Option<Sid
     })
 }
 
-// A condition, which is not resolved.
-#[tactic(auto, using(crate::proofs::Both::narrowing_sides), unfolding(crate::specs::Narrowing::narrows_either))]
-pub fn is_narrowing(g: &Region, condition: NodeId, expected: bool) -> bool
-    ensures { result ≡ is_narrowing g.now condition.0 expected }
+// What a guard refines, if it narrows a node. The condition is not resolved.
+#[tactic(auto, unfolding(crate::specs::Narrowing::narrows_either, crate::specs::Narrowing::narrowing))]
+pub fn narrowing(g: &Region, condition: NodeId, expected: bool) -> Option<Sides>
+    ensures { sides_of result ≡ narrowing g.now condition.0 expected }
 {
-    sides(g, condition, expected).is_some_and(|both| {
+    sides(g, condition, expected).filter(|both| {
         narrows_at(g, both.left, both.limits.left) || narrows_at(g, both.right, both.limits.right)
     })
 }

@@ -206,16 +206,16 @@ module _ (g h w : List ℕ) (f : Graph g) (same : Same (count_of g) g h) (words 
       }))
 
 -- the alias words of a graph's nodes are those saved
-pub saved-words : (g s : List ℕ) → Graph g → length s ≡ LIMIT → (m : ℕ) → m < count_of g → get_or (saved g s) m 0 ≡ alias_at g m
+pub saved-words : (g s : List ℕ) → count_of g ≤ length s → (m : ℕ) → m < count_of g → get_or (saved g s) m 0 ≡ alias_at g m
 unfolding saved
-saved-words g s f room m l = saved_at (count_of g) g s m (omega (arith, f.count)) l
+saved-words g s room m l = saved_at (count_of g) g s m room l
 
 pub saved-length : (g s : List ℕ) → length (saved g s) ≡ length s
 unfolding saved
 saved-length g s = length-saved (count_of g) g s
 
 -- what was saved of a graph, put back into what its nodes have become, is the graph
-pub restored-graph : (g h s : List ℕ) → is_graph g ≡ true → length s ≡ LIMIT → Same (count_of g) g h → restored (count_of g) (saved g s) h ≡ g
+pub restored-graph : (g h s : List ℕ) → is_graph g ≡ true → count_of g ≤ length s → Same (count_of g) g h → restored (count_of g) (saved g s) h ≡ g
 restored-graph g h s e room same =
     let f = graph_facts g e in
-    restored_is g h (saved g s) f same (saved-words g s f room)
+    restored_is g h (saved g s) f same (saved-words g s room)

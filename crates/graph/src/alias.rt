@@ -6,7 +6,7 @@ ghost use Rattle.graph.specs.Clear.{EmptyPast};
 
 use crate::NodeId;
 use crate::clear::clear_to;
-use crate::layout::{ALIAS, LIMIT, NODES, Region, count, start_of};
+use crate::layout::{ALIAS, LIMIT, Region, count, start_of};
 
 // The alias of `from` is `to`. An id past the limit names no node, and nothing is written.
 #[tactic(auto, unfolding(crate::specs::Alias::aliased))]
@@ -20,10 +20,10 @@ pub fn set_alias(g: &mut Region, from: NodeId, to: NodeId)
     }
 }
 
-// The alias words of all nodes, into the first elements of `words`: a slice, since a mark lends a part of its region.
+// The alias words of all nodes, into the first elements of `words`: a slice, since a mark lends a part of its region, and a guard as much as its graph takes.
 #[tactic(auto, unfolding(crate::specs::Alias::saved))]
 pub fn save_aliases(g: &Region, words: &mut [u64])
-    requires { (length words.old ≡ LIMIT) × (count_of g.now ≤ LIMIT) }
+    requires { (count_of g.now ≤ length words.old) × (length words.old ≤ LIMIT) }
     ensures { words.new ≡ saved g.now words.old }
 {
     for n in 0..count(g) {
@@ -32,8 +32,8 @@ pub fn save_aliases(g: &Region, words: &mut [u64])
 }
 
 // The first `nodes` nodes get their alias words back.
-fn restore_aliases(g: &mut Region, nodes: u64, words: &[u64; NODES])
-    requires { nodes ≤ LIMIT }
+fn restore_aliases(g: &mut Region, nodes: u64, words: &[u64])
+    requires { (nodes ≤ length words.now) × (nodes ≤ LIMIT) }
     ensures { g.new ≡ restored_up_to nodes words.now g.old }
 {
     for n in 0..nodes {
@@ -44,8 +44,8 @@ fn restore_aliases(g: &mut Region, nodes: u64, words: &[u64; NODES])
 // Takes back what was added to the first `nodes` nodes, and the aliases that were set since they were saved. Every word past the first
 // `count` nodes is 0.
 #[tactic(auto, unfolding(crate::specs::Alias::restored))]
-pub fn restore_to(g: &mut Region, nodes: u64, count: u64, words: &[u64; NODES])
-    requires { (nodes ≤ count) × (count ≤ LIMIT) × EmptyPast count g.old }
+pub fn restore_to(g: &mut Region, nodes: u64, count: u64, words: &[u64])
+    requires { (nodes ≤ length words.now) × (nodes ≤ count) × (count ≤ LIMIT) × EmptyPast count g.old }
     ensures { g.new ≡ restored nodes words.now g.old }
 {
     restore_aliases(g, nodes, words);
@@ -53,8 +53,8 @@ pub fn restore_to(g: &mut Region, nodes: u64, count: u64, words: &[u64; NODES])
 }
 
 // The same whatever the words past the nodes are.
-pub fn restore(g: &mut Region, nodes: u64, words: &[u64; NODES])
-    requires { nodes ≤ LIMIT }
+pub fn restore(g: &mut Region, nodes: u64, words: &[u64])
+    requires { (nodes ≤ length words.now) × (nodes ≤ LIMIT) }
     ensures { g.new ≡ restored nodes words.now g.old }
 {
     restore_to(g, nodes, LIMIT, words);

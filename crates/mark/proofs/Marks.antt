@@ -127,7 +127,7 @@ module _ (g m : List ℕ) (k : ℕ) (f : Graph g) (size : length m ≡ MARKS) (h
   marked_alias i l =
       alias_word (marked g m k) k i (omega (arith, f.count))
       ∙ rw is (with_here begun k words begun_length here words-length i (omega (arith, f.count)))
-      ∙ saved-words g (aliases_at begun k) f (aliases_length begun k begun_length here) i l
+      ∙ saved-words g (aliases_at begun k) (omega (arith, f.count, aliases_length begun k begun_length here)) i l
 
   -- the marks before it stand
   pub marked_stands : (j : ℕ) → j < k → Stands m (marked g m k) j

@@ -1,17 +1,19 @@
 // A request performed: the questions in their order, the work, and what a refusal takes back.
-ghost use Rattle.std.specs.Prelude.{true, ◌≡◌, ◌≤◌};
+ghost use Rattle.std.specs.Prelude.{true, ◌≡◌, ◌≤◌, length};
 ghost use Rattle.graph.specs.Insert.{built_of};
-ghost use Rattle.graph.specs.Layout.{LIMIT};
+ghost use Rattle.graph.specs.Layout.{LIMIT, count_of};
 ghost use Rattle.graph.specs.WellFormed.{is_graph};
-ghost use Rattle.assume.specs.Assume.{assumed_guard};
+ghost use Rattle.assume.specs.Assume.{refined_both, assumed_guard};
+ghost use Rattle.assume.specs.Limits.{pair_of};
 ghost use Rattle.native.specs.Call.{answer_of, called};
 ghost use Rattle.request.specs.Request.{request_of};
 ghost use Rattle.native.specs.Perform.{UNITS, settled, guard_out, worked, performed, left, request_in_graph, request_call};
 
 use crate::{Answer, direct};
 use answer::Refusal;
-use assume::narrowing::is_narrowing;
-use assume::{Full, guard_assumed};
+use assume::guard_assumed::refine_both;
+use assume::narrowing::narrowing;
+use assume::{Full, Sides};
 use build::{Budget, range_test};
 use graph::alias::{restore, save_aliases};
 use graph::clear::clear_from;
@@ -23,6 +25,8 @@ use request::questions::{are_ids, are_widths, is_declarable, is_typed};
 
 // The units of a call.
 pub const UNITS: u64 = 1024;
+// Up to so many nodes a guard keeps the alias words in a small place.
+const FEW: usize = 128;
 
 pub(crate) fn full_budget() -> Budget
     ensures { result.units ≡ UNITS }
@@ -42,8 +46,30 @@ pub(crate) fn settle(built: Result<NodeId, Unbuilt>, full: Refusal) -> Result<An
     }
 }
 
-// A condition is assumed; without room for a node its aliases and nodes are taken back. Most guards narrow nothing, and need nothing saved.
-#[tactic(auto, using(assume::proofs::Idle::guard_idle, graph::proofs::Grown::graph_facts))]
+// Both operands of a graph of at most N nodes are refined; without room for a node the aliases and nodes are taken back.
+#[tactic(auto, using(graph::proofs::Grown::graph_facts))]
+fn refine_or_restore<const N: usize>(
+    g: &mut Region,
+    both: Sides,
+    full: Refusal,
+) -> Result<Answer, Refusal>
+    requires { (is_graph g.old ≡ true) × (count_of g.old ≤ N) × (N ≤ LIMIT) }
+    ensures { called (answer_of result) g.new ≡ guard_out full g.old (refined_both g.old both.left.0 both.right.0 (pair_of both.limits)).outcome (refined_both g.old both.left.0 both.right.0 (pair_of both.limits)).words }
+{
+    let nodes = count(g);
+    let mut words = [0; N];
+    save_aliases(g, &mut words);
+    match refine_both(g, both) {
+        Ok(_) => Ok(Answer::Done),
+        Err(Full) => {
+            restore(g, nodes, &words);
+            Err(full)
+        }
+    }
+}
+
+// A condition is assumed. Most guards narrow nothing and need nothing saved, and most graphs are small: a place for all nodes that there can be takes longer to make.
+#[tactic(auto, using(assume::proofs::Idle::guard_narrowing, graph::proofs::Grown::graph_facts))]
 fn assume_or_restore(
     g: &mut Region,
     condition: NodeId,
@@ -53,18 +79,13 @@ fn assume_or_restore(
     requires { is_graph g.old ≡ true }
     ensures { called (answer_of result) g.new ≡ guard_out full g.old (assumed_guard g.old condition.0 expected).outcome (assumed_guard g.old condition.0 expected).words }
 {
-    if !is_narrowing(g, condition, expected) {
+    let Some(both) = narrowing(g, condition, expected) else {
         return Ok(Answer::Done);
-    }
-    let nodes = count(g);
-    let mut aliases = [0; NODES];
-    save_aliases(g, &mut aliases);
-    match guard_assumed::assume_guard(g, condition, expected) {
-        Ok(_) => Ok(Answer::Done),
-        Err(Full) => {
-            restore(g, nodes, &aliases);
-            Err(full)
-        }
+    };
+    if count(g) <= FEW as u64 {
+        refine_or_restore::<FEW>(g, both, full)
+    } else {
+        refine_or_restore::<NODES>(g, both, full)
     }
 }
 

@@ -5,4 +5,4 @@ use Rattle.graph.proofs.alias.restore_to.Goals as goal
 pub clear_to-requires : goal.clear_to-requires
 clear_to-requires c =
     let r = c.requires in
-    (r.0, r.1, rw c.restore_aliases.ensures (restored_past _ _ _ _ r.0 r.2))
+    (r.1, r.2, rw c.restore_aliases.ensures (restored_past _ _ _ _ r.1 r.3))
