@@ -15,6 +15,7 @@ refusal_number refusal.Room = 7
 refusal_number refusal.Units = 8
 refusal_number refusal.Marks = 9
 refusal_number refusal.Mark = 10
+refusal_number refusal.Guards = 11
 
 -- what each refusal says to a reader
 abbrev pub refusal_text : Refusal → List ℕ
@@ -28,3 +29,4 @@ refusal_text refusal.Room = codes "there is no room for another node: a graph ho
 refusal_text refusal.Units = codes "the call needs more than 1,024 steps"
 refusal_text refusal.Marks = codes "sixteen marks stand already"
 refusal_text refusal.Mark = codes "the mark does not stand"
+refusal_text refusal.Guards = codes "the list has more than 32 guards, or not one answer, 0 or 1, for each"

@@ -22,6 +22,8 @@ pub enum Refusal {
     Marks,
     // The mark named does not stand.
     Mark,
+    // A list of guards with more than 32, or without one answer, 0 or 1, for each.
+    Guards,
 }
 
 impl Refusal {
@@ -53,6 +55,8 @@ impl fmt::Display for Refusal {
             Refusal::Units => "the call needs more than 1,024 steps",
             Refusal::Marks => "sixteen marks stand already",
             Refusal::Mark => "the mark does not stand",
+            Refusal::Guards =>
+                "the list has more than 32 guards, or not one answer, 0 or 1, for each",
         })
     }
 }

@@ -221,7 +221,7 @@ module _ (g : List ℕ) (e : is_graph g ≡ true) (w : Words g) where
 
   module _ (n : ℕ) (here : n < count_of g) (expected : Bool) where
     -- a guard
-    assumed-grows : Grows g (assumed_guard g n expected).words
+    pub assumed-grows : Grows g (assumed_guard g n expected).words
     assumed-grows =
         assumed_keeps (Grows g) (λ h m. m < count_of h) keep on g n expected (grows_self g e w)
         (λ c q h p.

@@ -11,7 +11,8 @@ use Rattle.graph.specs.Node as node
 use Rattle.graph.specs.Node.{type_at, range_at}
 use Rattle.graph.specs.Insert as insert
 use Rattle.graph.specs.Insert.{Reply, resolve, inserted}
-use Rattle.graph.proofs.Restored.{Same, inserted_same, aliased_same}
+use Rattle.graph.proofs.Restored.{inserted_same, aliased_same}
+use Rattle.graph.specs.Alias.{Same}
 use Rattle.guard.specs.Condition.{behind_nots, Comparison, comparison_at}
 use Rattle.assume.specs.Limits.{Limits, Pair, limited_to, meet, narrows, comparable, limits_by}
 use Rattle.assume.specs.Refine.{Next, Outcome, unchanged, narrowed, full, assumed, alias_to, narrow, step, refine_step, go_on, refine_up_to, refined}

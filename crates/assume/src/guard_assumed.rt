@@ -1,4 +1,4 @@
-// A guard assumed, by what it narrows (assume.rs 83 to 151).
+// Both operands of a guard refined (assume.rs 104 to 150, after the limits are known).
 ghost use Rattle.std.specs.Prelude.{◌≡◌};
 ghost use Rattle.assume.specs.Limits.{pair_of};
 ghost use Rattle.assume.specs.Refine.{outcome_of, assumed};

@@ -156,8 +156,9 @@ fn equality_limits(equal: bool, a: Range, b: Range) -> Pair
     }
 }
 
-// The limits of two operands whose comparison is as expected.
+// The limits of two operands whose comparison is as expected. Inlined, as `sides` is (narrowing.rt).
 #[tactic(auto, unfolding(crate::specs::Limits::limits_by))]
+#[inline(always)]
 pub fn limits_by(op: Binary, expected: bool, a: Range, b: Range) -> Pair
     ensures { pair_of result ≡ limits_by op expected (bounds_of a) (bounds_of b) }
 {

@@ -18,7 +18,7 @@ use native::perform::{call, call_in_graph};
 use request::Request;
 use word::Word;
 
-// The `unwrap` stands here, in marks.rt and in retain_nodes.rt: what a function leaves that lends a `&mut` on, no ordinary clause can say.
+// The `unwrap` stands here, in guards.rt, marks.rt and retain_nodes.rt: what a function leaves that lends a `&mut` on, no ordinary clause can say.
 #[tactic(auto, using(graph::proofs::Grown::graph_facts))]
 fn asked_in_graph(g: &mut [u64], request: Request) -> u64
     requires { is_graph g.old ≡ true }

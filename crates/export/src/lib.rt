@@ -2,6 +2,7 @@
 #![tactic(auto)]
 
 pub mod calls;
+pub mod guards;
 pub mod marks;
 pub mod reading;
 pub mod requests;

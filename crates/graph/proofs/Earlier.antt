@@ -6,11 +6,11 @@ use Prim.Native.Nat.{ℕ, ◌+◌, ◌<◌, ◌≤◌}
 use native.Mathlib.Omega.{arith}
 use lib.ListN.{length, get_or}
 use Rattle.graph.specs.Layout.{TYPE, WIDTH, RANGE, MIN, MAX, OPERATION, X, Y, Z, KEY, LIMIT, REGION, node_start, word_at, count_of}
-use Rattle.graph.specs.Alias.{restored}
+use Rattle.graph.specs.Alias.{restored, Same}
 use Rattle.graph.specs.WellFormed.{is_alias, is_graph}
 use Rattle.graph.proofs.Grown.{Graph, Node, node_facts, facts_node, facts_graph, alias_facts}
 use Rattle.graph.proofs.Kept.{Kept}
-use Rattle.graph.proofs.Restored.{Same, restored-length, restored-count, restored_key, restored_alias_of, restored_empty}
+use Rattle.graph.proofs.Restored.{restored-length, restored-count, restored_key, restored_alias_of, restored_empty}
 
 -- ---- the keys of the first nodes
 

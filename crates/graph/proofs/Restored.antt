@@ -13,10 +13,10 @@ use lib.Seq.{get_or-set_same, get_or-set_other}
 use Rattle.word.proofs.Integer.{lt-or-ge}
 use Rattle.range.specs.Interval.{Interval}
 use Rattle.range.specs.declared.ScalarType.{ScalarType}
-use Rattle.graph.specs.Layout.{WORDS, KEY, ALIAS, FIRST, LIMIT, REGION, node_start, word_at, count_of}
+use Rattle.graph.specs.Layout.{WORDS, KEY, ALIAS, FIRST, LIMIT, node_start, word_at, count_of}
 use Rattle.graph.specs.Node.{Op, alias_at}
 use Rattle.graph.specs.Insert.{inserted}
-use Rattle.graph.specs.Alias.{aliased, saved_up_to, saved, restored_up_to, restored}
+use Rattle.graph.specs.Alias.{aliased, saved_up_to, saved, restored_up_to, restored, Same}
 use Rattle.graph.specs.WellFormed.{is_graph}
 use Rattle.graph.proofs.Grown.{Graph, graph_facts}
 use Rattle.graph.proofs.Kept.{inserted_kept}
@@ -73,12 +73,6 @@ pub restored_past : (n c : ℕ) (s h : List ℕ) → n ≤ c → EmptyPast c h �
 restored_past n c s h l e i p = restored_other n s h i (λ m q d. omega arith) ∙ e i p
 
 -- ---- nodes that stay but for their aliases
-
--- the keys of the first n nodes of g stand in h
-pub record Same (n : ℕ) (g h : List ℕ) : Type 0 where
-  pub size : length h ≡ REGION
-  pub more : n ≤ count_of h
-  pub key : (m k : ℕ) → m < n → k < KEY → word_at h m k ≡ word_at g m k
 
 pub same_self : (g : List ℕ) → Graph g → Same (count_of g) g g
 same_self g f = record { size = f.length; more = le_refl (count_of g); key = λ m k l h. refl }

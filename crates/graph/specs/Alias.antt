@@ -1,6 +1,6 @@
 -- Aliases: set, saved, and put back.
-use Rattle.std.specs.Prelude.{cond, ◌&&◌, List, ℕ, zero, suc, ◌+◌, ltb, get_or, set}
-use Rattle.graph.specs.Layout.{ALIAS, LIMIT, node_start, count_of}
+use Rattle.std.specs.Prelude.{cond, ◌&&◌, ◌≡◌, List, ℕ, zero, suc, ◌+◌, ◌<◌, ◌≤◌, ltb, length, get_or, set}
+use Rattle.graph.specs.Layout.{KEY, ALIAS, LIMIT, REGION, node_start, word_at, count_of}
 use Rattle.graph.specs.Node.{alias_at}
 use Rattle.graph.specs.Clear.{cleared}
 
@@ -25,3 +25,9 @@ restored_up_to (suc n) s h = set (restored_up_to n s h) (node_start n + ALIAS) (
 -- the first n nodes alone, with their alias words from s
 unfoldable pub restored : ℕ → List ℕ → List ℕ → List ℕ
 restored n s h = cleared n (restored_up_to n s h)
+
+-- the first n nodes of g stand in h, but for their aliases
+pub record Same (n : ℕ) (g h : List ℕ) : Type 0 where
+  pub size : length h ≡ REGION
+  pub more : n ≤ count_of h
+  pub key : (m k : ℕ) → m < n → k < KEY → word_at h m k ≡ word_at g m k

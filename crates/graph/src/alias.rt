@@ -20,10 +20,10 @@ pub fn set_alias(g: &mut Region, from: NodeId, to: NodeId)
     }
 }
 
-// The alias words of all nodes, into the first elements of `words`: a slice, since a mark lends a part of its region, and a guard as much as its graph takes.
+// The alias words of all nodes, into the first elements of `words`: a slice, since a mark lends a part of its region, and a guard a place of 128 words or of all 512.
 #[tactic(auto, unfolding(crate::specs::Alias::saved))]
 pub fn save_aliases(g: &Region, words: &mut [u64])
-    requires { (count_of g.now ≤ length words.old) × (length words.old ≤ LIMIT) }
+    requires { (count_of g.now ≤ length words.old) × (count_of g.now ≤ LIMIT) }
     ensures { words.new ≡ saved g.now words.old }
 {
     for n in 0..count(g) {

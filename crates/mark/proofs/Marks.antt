@@ -8,9 +8,9 @@ use lib.ListN.{length, get_or, set, take, drop, length-set, length-append, lengt
 use lib.Seq.{get_or-set_same, get_or-set_other, get_or-take, get_or-drop, get_or-append-add, length-take-le}
 use Rattle.graph.specs.Layout.{LIMIT, REGION, count_of}
 use Rattle.graph.specs.Node.{alias_at}
-use Rattle.graph.specs.Alias.{saved, restored}
+use Rattle.graph.specs.Alias.{saved, restored, Same}
 use Rattle.graph.proofs.Grown.{Graph}
-use Rattle.graph.proofs.Restored.{Same, saved-words, saved-length, restored_alike, restored_is}
+use Rattle.graph.proofs.Restored.{saved-words, saved-length, restored_alike, restored_is}
 use Rattle.mark.specs.Layout.{MOST, MARKS, mark_start, standing, count_at, aliases_at}
 use Rattle.mark.specs.Mark.{standing_only, with_aliases, marked, returned}
 use Rattle.mark.proofs.Facts.{First}

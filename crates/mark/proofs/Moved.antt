@@ -13,7 +13,8 @@ use Rattle.graph.specs.Layout.{TYPE, WIDTH, RANGE, MIN, MAX, LIMIT, word_at, cou
 use Rattle.graph.specs.Node.{pair, alias_at}
 use Rattle.graph.specs.WellFormed.{is_type, is_range, is_alias, is_graph}
 use Rattle.graph.proofs.Grown.{Graph}
-use Rattle.graph.proofs.Restored.{Same, same_self, restored-count}
+use Rattle.graph.proofs.Restored.{same_self, restored-count}
+use Rattle.graph.specs.Alias.{Same}
 use Rattle.graph.proofs.Earlier.{same_fewer, restored_same, restored-is_graph}
 use Rattle.mark.specs.Layout.{MOST, MARKS, standing, count_at, aliases_at}
 use Rattle.mark.specs.Mark.{standing_only, marked, returned}

@@ -11,7 +11,8 @@ use Rattle.graph.specs.Insert as graph
 use Rattle.graph.specs.WellFormed.{is_graph}
 use Rattle.graph.proofs.Grown.{Graph, graph_facts}
 use Rattle.graph.proofs.Kept.{Kept}
-use Rattle.graph.proofs.Restored.{Same, same_self, inserted_same}
+use Rattle.graph.proofs.Restored.{same_self, inserted_same}
+use Rattle.graph.specs.Alias.{Same}
 use Rattle.graph.proofs.Earlier.{kept_keys}
 use Rattle.assume.specs.Refine as refine
 use Rattle.assume.specs.Refine.{Outcome}

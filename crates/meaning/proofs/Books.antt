@@ -11,7 +11,7 @@ use Rattle.native.specs.Retain as retaining
 use Rattle.mark.specs.Mark as marks
 use Rattle.mark.specs.Mark.{Number, mark_call, return_call}
 use Rattle.meaning.specs.Value.{Env}
-use Rattle.meaning.specs.Book.{Action, request, retain, mark, return_to, Book, blank, remembers, put_back, forgets, drops_all, History, act, play, Unmarked}
+use Rattle.meaning.specs.Book.{Action, request, retain, mark, return_to, guards, Book, blank, remembers, put_back, forgets, drops_all, History, act, play, Unmarked}
 use Rattle.meaning.specs.Marks.{regions_of, Spares, play_on, AllSparing}
 use Rattle.meaning.proofs.Demand3.{whole}
 use Rattle.meaning.proofs.Returned.{mark-number}
@@ -44,6 +44,7 @@ module _ (n : ℕ) (b : Book) where
   on_act : (ρ : Env) (a : Action) (h : History) → Spares n (regions_of h) a → Has n b h.books → Has n b (act ρ a h).books
   on_act ρ (request q) h s k = k
   on_act ρ (retain keep mapping) h s k = on_retain (marks.retain_call h.now.graph h.marks keep mapping).retention.outcome h.books s k
+  on_act ρ (guards cs es) h s k = k
   on_act ρ mark h s k = on_mark (mark_call h.now.graph h.marks).answer h.now.book h.books k
   on_act ρ (return_to j) h s k = on_return (return_call h.now.graph h.marks j).answer j h.books s k
 

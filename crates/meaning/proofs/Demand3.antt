@@ -8,16 +8,17 @@ use borrow.Author.Tests.{lt-ltb, le-ltb}
 use Rattle.graph.specs.Layout.{count_of}
 use Rattle.graph.specs.Node.{node_at}
 use Rattle.graph.specs.WellFormed.{is_graph}
+use Rattle.guard_list.specs.GuardList.{guards_call}
 use Rattle.mark.specs.Layout.{MOST, standing}
 use Rattle.mark.specs.WellFormed.{is_marked}
 use Rattle.mark.specs.Mark as marking
 use Rattle.mark.specs.Mark.{mark_call, mark_in_graph, return_call, return_in_graph}
 use Rattle.mark.proofs.Facts.{both_marked, facts_marks}
 use Rattle.meaning.specs.Value.{Env}
-use Rattle.meaning.specs.Book.{Action, History, play, Unmarked, AllMet, Demand3, Renumbers, Marks}
+use Rattle.meaning.specs.Book.{Action, History, play, Unmarked, AllMet, Demand3, Renumbers, Marks, Singly}
 use Rattle.meaning.proofs.Builders.{builds}
 use Rattle.meaning.proofs.Mapping.{renumbers, kept_value, marked-retain}
-use Rattle.meaning.proofs.Play.{Whole, play_whole}
+use Rattle.meaning.proofs.Play.{Whole, Listed, play_whole, guards_are}
 use Rattle.meaning.proofs.Tested.{range_sound}
 
 module _ (ρ : Env) (m : List ℕ) (None : Unmarked m) (calls : List Action) where
@@ -55,6 +56,18 @@ module _ (ρ : Env) (m : List ℕ) (None : Unmarked m) (calls : List Action) whe
         back = λ k l. rw (grown-marked, lt-ltb k (standing end.marks) (omega (arith, e)));
         gone = λ k l. rw (grown-marked, le-ltb k (standing end.marks) (omega (arith, e)));
       }
+
+  -- a list of guards is answered as its single guards are, and leaves what they leave, or, refused, what it found
+  pub grown-guards : Singly ρ (play ρ m calls)
+  grown-guards = record {
+    answer = λ cs es. (are cs es).0;
+    other = λ cs es. (are cs es).1;
+    done = λ cs es. (are cs es).2;
+    refused = λ cs es. (are cs es).3;
+  }
+    where
+      are : (cs es : List ℕ) → Listed builds (λ w. range_sound w (builds w)) ρ cs es end.now (guards_call end.now.graph cs es)
+      are cs es = guards_are builds (λ w. range_sound w (builds w)) ρ cs es end.now whole.now
 
   -- the mapping of a retain that isn't refused is the book's renumbering
   pub demand3_mappings : Renumbers (play ρ m calls)

@@ -34,7 +34,8 @@ use Rattle.graph.specs.Insert as graph
 use Rattle.graph.specs.Insert.{Reply, interned, appended, found_or, inserted}
 use Rattle.graph.proofs.Nodes.{appended_made, appended_full}
 use Rattle.graph.proofs.Grown.{Graph, graph_facts}
-use Rattle.graph.proofs.Restored.{Same, same_self}
+use Rattle.graph.proofs.Restored.{same_self}
+use Rattle.graph.specs.Alias.{Same}
 use Rattle.fold.specs.Shape.{same_binary}
 use Rattle.assume.specs.Refine as refine
 use Rattle.assume.specs.Refine.{Outcome}
@@ -46,12 +47,15 @@ use Rattle.retain.proofs.Operands.{KeepList, keep_list_facts}
 use Rattle.answer.specs.declared.Refusal.{Refusal}
 use Rattle.answer.specs.declared.Refusal.TheVariants as no
 use Rattle.native.specs.Call as calls
-use Rattle.native.specs.Call.{Called, refusal}
+use Rattle.native.specs.Call.{Response, Called, refusal, is_refused}
 use Rattle.request.specs.Request as asks
 use Rattle.request.specs.Request.{Request, all_up_to, all_below, widths, ids, typed, is_bool_value, is_range_of, declarable}
 use Rattle.native.specs.Perform.{UNITS, settled, builder_out, guard_out, worked, finished, performed, request_in_graph, request_call}
 use Rattle.native.specs.Retain as retaining
 use Rattle.native.specs.Retain.{Retention, retain_in_graph}
+use Rattle.guard_list.specs.GuardList.{guards_of, in_turn, is_guard_list, guards_in_graph, guards_call}
+use Rattle.guard_list.proofs.Lists.{list_parts, parts_list}
+use Rattle.guard_list.proofs.Kept.{guards_same}
 use Rattle.mark.specs.Layout.{MOST, standing}
 use Rattle.mark.specs.WellFormed.{is_marked}
 use Rattle.mark.specs.Mark as marks
@@ -63,7 +67,7 @@ use Rattle.mark.proofs.Requests.{request_same}
 use Rattle.request.specs.Typing.{is_number, binary_typed}
 use Rattle.meaning.specs.Value.{Env, size, integer_of, of_type, valued, Operand, value, operand}
 use Rattle.meaning.proofs.Worlds.{World, operation_means}
-use Rattle.meaning.specs.Book.{Action, request, retain, mark, return_to, patterned, request_means, Line, Condition, input_is, effect_is, holds, first, handed, request_conditions, keeps, renumbered, struck, retains, Book, blank, drops_all, State, History, called, kept, acted, retained_by, marked_by, returned_by, act, play, Unmarked, AllMet, Right, AllRight}
+use Rattle.meaning.specs.Book.{Action, request, retain, mark, return_to, guards, patterned, request_means, Line, Condition, input_is, effect_is, holds, first, handed, request_conditions, keeps, renumbered, struck, retains, Book, blank, drops_all, State, History, called, kept, acted, singles, singly, takes, listed, acted_guards, refused_or, answered_singly, Takeable, retained_by, marked_by, returned_by, act, play, Unmarked, AllMet, Right, AllRight}
 use Rattle.meaning.proofs.Values.{typed_is}
 use Rattle.graph.proofs.Appended.{empty_graph}
 use Rattle.meaning.proofs.Invariant.{shiftable, stored_typed, Ends, Within, Inv, Extends, ext_here, ext_value, Storable, Kept, Answered, insert_good}
@@ -541,16 +545,107 @@ module _ (ρ : Env) (h : History) (w : Whole ρ h) where
 module _ (builds : (w : World) → Sound w build.build)
     (tested : (w : World) (g : List ℕ) → Inv w g → (v low high : ℕ) → v < count_of g
     → Tree.Ends w g ty.Bool (request_means w.env (operand w.env g) (asks.unsigned_range v low high)) (build.unsigned_range v low high UNITS g)) (ρ : Env) where
+  acted_fine : (q : Request) → Pattern q → (s : State) → Fine ρ s → Fine ρ (acted ρ q s)
+  acted_fine q p s k = request_fine ρ s k.0 k.1 (builds (At ρ s.book.conditions)) (tested (At ρ s.book.conditions) s.graph k.0) q p
+
+  -- guards one after the other: what they are answered, and, if none is refused, what they leave
+  abbrev Turns : List ℕ → List ℕ → State → Called → Type 0
+  Turns cs es s c = (c.answer ≡ answered_singly ρ (singles cs es) s)
+      × (is_refused c.answer ≡ false
+      → (c.answer ≡ calls.done) × Fine ρ (singly ρ (singles cs es) s) × ((singly ρ (singles cs es) s).graph ≡ c.words))
+
+  turns_fine : (cs es : List ℕ) (s : State) → Fine ρ s → Turns cs es s (in_turn s.graph (guards_of cs es))
+  unfolding request_call
+  turns_fine [] es s k = (refl, λ n. (refl, k, refl))
+  turns_fine (c ∷ cs) [] s k = (refl, λ n. (refl, k, refl))
+  turns_fine (c ∷ cs) (e ∷ es) s k = by (turns_fine cs es) (request_in_graph s.graph q).answer refl
+    where
+      q : Request
+      q = asks.guard c (eqb e 1)
+
+      t : State
+      t = acted ρ q s
+
+      asked : request_call s.graph q ≡ request_in_graph s.graph q
+      asked = rw k.0.graph
+
+      same : t.graph ≡ (request_in_graph s.graph q).words
+      same = ap (λ (x : Called). x.words) asked
+
+      on : ((u : State) → Fine ρ u → Turns cs es u (in_turn u.graph (guards_of cs es)))
+          → Turns cs es t (in_turn (request_in_graph s.graph q).words (guards_of cs es))
+      on rest = subst (λ (w : List ℕ). Turns cs es t (in_turn w (guards_of cs es))) same (rest t (acted_fine q tt s k))
+
+      first : (a : Response) → (request_in_graph s.graph q).answer ≡ a
+          → refused_or (request_call s.graph q).answer (answered_singly ρ (singles cs es) t) ≡ refused_or a (answered_singly ρ (singles cs es) t)
+      first a z = ap (λ (b : Response). refused_or b (answered_singly ρ (singles cs es) t)) (ap (λ (x : Called). x.answer) asked ∙ z)
+
+      by : ((u : State) → Fine ρ u → Turns cs es u (in_turn u.graph (guards_of cs es))) → (a : Response) → (request_in_graph s.graph q).answer ≡ a
+          → Turns (c ∷ cs) (e ∷ es) s (cond (is_refused a) (request_in_graph s.graph q) (in_turn (request_in_graph s.graph q).words (guards_of cs es)))
+      by rest (calls.refused r) z = (z ∙ sym (first (calls.refused r) z), λ n. absurd (false≢true (sym n ∙ ap is_refused z)))
+      by rest (calls.id n) z = let r = on rest in (r.0 ∙ sym (first (calls.id n) z), r.1)
+      by rest calls.nothing z = let r = on rest in (r.0 ∙ sym (first calls.nothing z), r.1)
+      by rest calls.done z = let r = on rest in (r.0 ∙ sym (first calls.done z), r.1)
+
+  -- a list of guards
+  abbrev pub Listed : List ℕ → List ℕ → State → Called → Type 0
+  Listed cs es s c = (Takeable cs es → c.answer ≡ answered_singly ρ (singles cs es) s)
+      × ((Takeable cs es → ⊥) → c.answer ≡ calls.refused no.Guards)
+      × (c.answer ≡ calls.done → listed c (singly ρ (singles cs es) s).book s.book ≡ singly ρ (singles cs es) s)
+      × ((r : Refusal) → c.answer ≡ calls.refused r → listed c (singly ρ (singles cs es) s).book s.book ≡ s)
+      × Fine ρ (listed c (singly ρ (singles cs es) s).book s.book)
+
+  done_not : (r : Refusal) → calls.done ≡ calls.refused r → ⊥
+  done_not r e = false≢true (ap is_refused e)
+
+  pub guards_are : (cs es : List ℕ) (s : State) → Fine ρ s → Listed cs es s (guards_call s.graph cs es)
+  unfolding guards_call guards_in_graph
+  guards_are cs es s k =
+      by_test (Listed cs es s) (is_graph s.graph)
+      (λ e. by_test (Listed cs es s) (is_guard_list cs es)
+      (λ l. last (list_parts cs es l) c.answer refl)
+      (λ l. (λ p. absurd (false≢true (sym l ∙ parts_list cs es p.0 p.1 p.2)), λ n. refl, λ e. absurd (done_not no.Guards (sym e)), λ r e. refl, k)))
+      (λ e. absurd (false≢true (sym e ∙ k.0.graph)))
+    where
+      end : State
+      end = singly ρ (singles cs es) s
+
+      c : Called
+      c = in_turn s.graph (guards_of cs es)
+
+      r : Turns cs es s c
+      r = turns_fine cs es s k
+
+      other : (a : Response) → c.answer ≡ a → is_refused a ≡ false → a ≡ calls.done
+      other a z n = sym z ∙ (r.1 (ap is_refused z ∙ n)).0
+
+      done : Takeable cs es → c.answer ≡ calls.done → Listed cs es s (calls.called calls.done c.words)
+      done p z =
+          let t = r.1 (ap is_refused z) in
+          let e : ◌≡◌ {A = State} (record { graph = c.words; book = end.book }) end = λ i. record { graph = sym t.2 i; book = end.book } in
+          (λ l. sym z ∙ r.0, λ n. absurd (n p), λ q. e, λ q w. absurd (done_not q w), subst (Fine ρ) (sym e) t.1)
+
+      -- no other answer is one
+      done_only : Takeable cs es → (a : Response) → c.answer ≡ a → is_refused a ≡ false → Listed cs es s (calls.called a c.words)
+      done_only p a z n =
+          let e = other a z n in
+          subst (λ (b : Response). Listed cs es s (calls.called b c.words)) (sym e) (done p (z ∙ e))
+
+      last : Takeable cs es → (a : Response) → c.answer ≡ a → Listed cs es s (calls.called a (cond (is_refused a) s.graph c.words))
+      last p (calls.refused q) z = (λ l. sym z ∙ r.0, λ n. absurd (n p), λ w. absurd (done_not q (sym w)), λ q w. refl, k)
+      last p (calls.id n) z = done_only p (calls.id n) z refl
+      last p calls.nothing z = done_only p calls.nothing z refl
+      last p calls.done z = done_only p calls.done z refl
+
   act_whole : (a : Action) (h : History) → Whole ρ h → Whole ρ (act ρ a h)
   act_whole (request q) h w =
-      let s = h.now in
-      let k = w.now in
-      request_whole ρ h w (acted ρ (patterned q) s)
-      (request_fine ρ s k.0 k.1 (builds (At ρ s.book.conditions)) (tested (At ρ s.book.conditions) s.graph k.0) (patterned q) (patterned_is q))
-      (request_same s.graph (patterned q) k.0.graph)
+      request_whole ρ h w (acted ρ (patterned q) h.now) (acted_fine (patterned q) (patterned_is q) h.now w.now)
+      (request_same h.now.graph (patterned q) w.now.0.graph)
   act_whole (retain keep mapping) h w = retain_whole ρ h w keep mapping
   act_whole mark h w = mark_whole ρ h w
   act_whole (return_to k) h w = return_whole ρ h w k
+  act_whole (guards cs es) h w =
+      request_whole ρ h w (acted_guards ρ cs es h.now) (guards_are cs es h.now w.now).4 (guards_same h.now.graph cs es w.now.0.graph)
 
   empty_inv : Inv (At ρ []) (replicate REGION 0)
   empty_inv = search (arith, empty_graph)

@@ -29,6 +29,7 @@ use Rattle.native.specs.Perform.{request_in_graph, request_call}
 use Rattle.native.specs.Retain.{Retention, retain_in_graph, retain_call}
 use Rattle.mark.specs.Layout.{MARKS}
 use Rattle.mark.specs.WellFormed.{is_marked}
+use Rattle.guard_list.specs.GuardList.{guards_call}
 use Rattle.mark.specs.Mark as marks
 use Rattle.mark.proofs.Facts.{marked_both}
 use Rattle.record.specs.Record as records
@@ -37,7 +38,7 @@ use Rattle.record.specs.Line.{BAD, answer_line, retain_line}
 use Rattle.record.specs.Perform.{Effect, lent_words, done_by, effect_in_graph, effect_call}
 use Rattle.record.proofs.Little.{bytes_drop, little_below}
 use Rattle.meaning.specs.Value.{Env}
-use Rattle.meaning.specs.Book.{Action, request, retain, mark, return_to, patterned, play, Unmarked}
+use Rattle.meaning.specs.Book.{Action, request, retain, mark, return_to, guards, patterned, play, Unmarked}
 use Rattle.meaning.specs.Program.{Run, next, run_of, is_over, call_of, calls_of, line_of, lines_of, AllBytes, Plays, Grown}
 use Rattle.meaning.proofs.Answers.{by_test, by_provided, by_given}
 use Rattle.meaning.proofs.Invariant.{Ends}
@@ -180,6 +181,7 @@ leaves g w (request q) = (request_call g (patterned q)).words
 leaves g w (retain keep mapping) = (marks.retain_call g w keep mapping).retention.words
 leaves g w mark = g
 leaves g w (return_to k) = (marks.return_call g w k).words
+leaves g w (guards cs es) = (guards_call g cs es).words
 
 play_leaves : (ρ : Env) (w : List ℕ) (a : Action) (before : List Action)
     → (play ρ w (a ∷ before)).now.graph ≡ leaves (play ρ w before).now.graph (play ρ w before).marks a
@@ -188,6 +190,7 @@ play_leaves ρ w (request q) before = refl
 play_leaves ρ w (retain keep mapping) before = refl
 play_leaves ρ w mark before = refl
 play_leaves ρ w (return_to k) before = refl
+play_leaves ρ w (guards cs es) before = refl
 
 -- question 6 looks at the length of a mapping alone
 and_twice : (b c : Bool) → b && (true && c) ≡ b && (b && c)

@@ -11,13 +11,16 @@ use Rattle.graph.specs.Layout.{count_of}
 use Rattle.graph.specs.Node.{alias_at}
 use Rattle.graph.specs.WellFormed.{is_graph}
 use Rattle.graph.proofs.Grown.{Graph}
-use Rattle.graph.proofs.Restored.{Same, same_self}
+use Rattle.graph.proofs.Restored.{same_self}
+use Rattle.graph.specs.Alias.{Same}
 use Rattle.graph.proofs.Earlier.{same_then}
 use Rattle.native.specs.Call as calls
 use Rattle.native.specs.Perform.{request_call}
 use Rattle.native.specs.Retain as retaining
 use Rattle.native.specs.Retain.{retention, retain_in_graph}
 use Rattle.request.specs.Request.{Request}
+use Rattle.guard_list.specs.GuardList.{guards_call}
+use Rattle.guard_list.proofs.Kept.{guards_same}
 use Rattle.mark.specs.Layout.{MOST, standing, count_at, aliases_at}
 use Rattle.mark.specs.WellFormed.{is_marked}
 use Rattle.mark.specs.Mark as marks
@@ -26,7 +29,7 @@ use Rattle.mark.proofs.Facts.{regions_facts}
 use Rattle.mark.proofs.Marks.{Stands, standing_is, standing_stands, marked-standing, marked-count, marked_alias, marked_stands, returned_is}
 use Rattle.mark.proofs.Moved.{returned_same}
 use Rattle.mark.proofs.Requests.{request_same}
-use Rattle.meaning.specs.Book.{Action, request, retain, mark, return_to, patterned}
+use Rattle.meaning.specs.Book.{Action, request, retain, mark, return_to, guards, patterned}
 use Rattle.meaning.specs.Marks.{Regions, left, left_by, Spares, AllSpare, after}
 use Rattle.meaning.proofs.Answers.{by_test}
 
@@ -52,6 +55,14 @@ module _ (g : List ℕ) (f : Graph g) (n : ℕ) (r : Regions) (h : Holds g n r) 
       by : (t : Bool) → is_graph r.graph ≡ t → Holds g n (record { graph = (request_call r.graph q).words; marks = r.marks })
       by true e =
           moved (record { graph = (request_call r.graph q).words; marks = r.marks }) (same_then h.same h.same.more (request_same r.graph q e)) h.stands itself
+      by false e = rw e h
+
+  guards_holds : (cs es : List ℕ) → Holds g n (left (guards cs es) r)
+  unfolding guards_call
+  guards_holds cs es = by (is_graph r.graph) refl
+    where
+      by : (t : Bool) → is_graph r.graph ≡ t → Holds g n (left (guards cs es) r)
+      by true e = moved (left (guards cs es) r) (same_then h.same h.same.more (guards_same r.graph cs es e)) h.stands itself
       by false e = rw e h
 
   -- a mark that was set after it
@@ -102,6 +113,7 @@ module _ (g : List ℕ) (f : Graph g) (n : ℕ) (r : Regions) (h : Holds g n r) 
   left_holds (request q) s = request_holds (patterned q)
   left_holds (retain keep mapping) s = retain_holds keep mapping s
   left_holds mark s = mark_holds
+  left_holds (guards cs es) s = guards_holds cs es
   left_holds (return_to k) s = return_holds k s
 
 -- some calls

@@ -15,7 +15,9 @@ use Rattle.request.specs.Request.{Request}
 use Rattle.native.specs.Perform.{request_call}
 use Rattle.native.specs.Retain as retaining
 use Rattle.native.specs.Retain.{Outcome, Retention}
+use Rattle.answer.specs.declared.Refusal.{Refusal}
 use Rattle.answer.specs.declared.Refusal.TheVariants as no
+use Rattle.guard_list.specs.GuardList.{guards_call}
 use Rattle.mark.specs.Layout.{MARKS, standing}
 use Rattle.mark.specs.Mark as marking
 use Rattle.mark.specs.Mark.{Number, Marking, Returning, Retaining, mark_call, return_call, retain_call}
@@ -23,12 +25,13 @@ use Rattle.meaning.specs.Value.{Env, size, integer_of, of_type, valued, and_then
 
 -- ---- the calls
 
--- a call of demand 3 with any arguments; a retain has its keep list and the mapping lent, a return the mark's number
+-- a call of demand 3 with any arguments; a retain has its keep list and the mapping lent, a return the mark's number, a list of guards its conditions and answers
 pub data Action : Type 0 where
   request : Request → Action
   retain : List ℕ → List ℕ → Action
   mark : Action
   return_to : ℕ → Action
+  guards : List ℕ → List ℕ → Action
 
 -- the end of a range as the signed number of its 128-bit pattern
 abbrev pub signed_end : ℤ → ℤ
@@ -51,6 +54,12 @@ patterned (asks.concat h l v w) = asks.concat h l v w
 patterned (asks.unsigned_range v low high) = asks.unsigned_range v low high
 patterned (asks.guard n e) = asks.guard n e
 patterned (asks.unnamed ws is) = asks.unnamed ws is
+
+-- the single guards of a list: each condition with its answer
+abbrev pub singles : List ℕ → List ℕ → List Request
+singles [] es = []
+singles (c ∷ cs) [] = []
+singles (c ∷ cs) (e ∷ es) = asks.guard c (eqb e 1) ∷ singles cs es
 
 -- ---- the plain operations
 
@@ -196,6 +205,26 @@ acted ρ q s =
     called (request_call s.graph q) (request_means ρ (handed ρ s.graph s.book.lines) q)
     (request_conditions (handed ρ s.graph s.book.lines) q) s.book
 
+-- requests one after the other, each in the graph that the one before left
+abbrev pub singly : Env → List Request → State → State
+singly ρ [] s = s
+singly ρ (q ∷ qs) s = singly ρ qs (acted ρ q s)
+
+-- of two books the new one, if a list of guards is done
+abbrev pub takes : Response → Book → Book → Book
+takes (calls.id n) new old = old
+takes calls.nothing new old = old
+takes calls.done new old = new
+takes (calls.refused r) new old = old
+
+-- what a list of guards leaves: beside its graph a new book, or the old one
+abbrev pub listed : Called → Book → Book → State
+listed c new old = record { graph = c.words; book = takes c.answer new old }
+
+-- a list of guards and what it leaves: the book is that of its single guards
+abbrev pub acted_guards : Env → List ℕ → List ℕ → State → State
+acted_guards ρ cs es s = listed (guards_call s.graph cs es) (singly ρ (singles cs es) s).book s.book
+
 -- a retain and what it leaves
 abbrev pub retained_by : Retaining → List ℕ → History → History
 retained_by c keep h = record { now = kept c.retention keep h.now.book; marks = c.marks; books = drops_all c.retention.outcome h.books }
@@ -215,6 +244,7 @@ act ρ (request q) h = record { now = acted ρ (patterned q) h.now; marks = h.ma
 act ρ (retain keep mapping) h = retained_by (retain_call h.now.graph h.marks keep mapping) keep h
 act ρ mark h = marked_by (mark_call h.now.graph h.marks) h
 act ρ (return_to k) h = returned_by (return_call h.now.graph h.marks k) k h
+act ρ (guards cs es) h = record { now = acted_guards ρ cs es h.now; marks = h.marks; books = h.books }
 
 -- a list of calls, the latest first, from the region of zeros and a marks' region
 unfoldable pub play : Env → List ℕ → List Action → History
@@ -268,3 +298,27 @@ pub record Marks (h : History) : Type 0 where
   pub full : 16 ≤ length h.books → (mark_call h.now.graph h.marks).answer ≡ marking.refused no.Marks
   pub back : (k : ℕ) → k < length h.books → (return_call h.now.graph h.marks k).answer ≡ calls.done
   pub gone : (k : ℕ) → length h.books ≤ k → (return_call h.now.graph h.marks k).answer ≡ calls.refused no.Mark
+
+-- an answer, if it is a refusal, or else what the calls after it are answered
+abbrev pub refused_or : Response → Response → Response
+refused_or (calls.id n) rest = rest
+refused_or calls.nothing rest = rest
+refused_or calls.done rest = rest
+refused_or (calls.refused r) rest = calls.refused r
+
+-- the first refusal of requests one after the other, or done
+abbrev pub answered_singly : Env → List Request → State → Response
+answered_singly ρ [] s = calls.done
+answered_singly ρ (q ∷ qs) s = refused_or (request_call s.graph q).answer (answered_singly ρ qs (acted ρ q s))
+
+-- a list that can be taken: at most 32 conditions, and one answer, 0 or 1, for each
+abbrev pub Takeable : List ℕ → List ℕ → Type 0
+Takeable cs es = (length cs ≤ 32) × (length es ≡ length cs) × ((i : ℕ) → get_or es i 0 ≤ 1)
+
+-- whatever the values, a list of guards that can be taken is answered as its single guards are, up to the first that is refused; done, it
+-- leaves the graph and the book that they leave, and refused, those that it found
+pub record Singly (ρ : Env) (h : History) : Type 0 where
+  pub answer : (cs es : List ℕ) → Takeable cs es → (guards_call h.now.graph cs es).answer ≡ answered_singly ρ (singles cs es) h.now
+  pub other : (cs es : List ℕ) → (Takeable cs es → ⊥) → (guards_call h.now.graph cs es).answer ≡ calls.refused no.Guards
+  pub done : (cs es : List ℕ) → (guards_call h.now.graph cs es).answer ≡ calls.done → (act ρ (guards cs es) h).now ≡ singly ρ (singles cs es) h.now
+  pub refused : (cs es : List ℕ) (r : Refusal) → (guards_call h.now.graph cs es).answer ≡ calls.refused r → (act ρ (guards cs es) h).now ≡ h.now

@@ -3,9 +3,10 @@ use Rattle.std.specs.Prelude.{List, [], ◌∷◌, ◌≡◌, ℕ, ◌≤◌}
 use Rattle.native.specs.Call as calls
 use Rattle.native.specs.Perform.{request_call}
 use Rattle.native.specs.Retain as retaining
+use Rattle.guard_list.specs.GuardList.{guards_call}
 use Rattle.mark.specs.Mark.{mark_call, return_call, retain_call}
 use Rattle.meaning.specs.Value.{Env}
-use Rattle.meaning.specs.Book.{Action, request, retain, mark, return_to, patterned, History, act}
+use Rattle.meaning.specs.Book.{Action, request, retain, mark, return_to, guards, patterned, History, act}
 
 -- the graph's region and the marks'
 pub record Regions : Type 0 where
@@ -18,6 +19,7 @@ left (request q) r = record { graph = (request_call r.graph (patterned q)).words
 left (retain keep mapping) r =
     record { graph = (retain_call r.graph r.marks keep mapping).retention.words; marks = (retain_call r.graph r.marks keep mapping).marks }
 left mark r = record { graph = r.graph; marks = (mark_call r.graph r.marks).marks }
+left (guards cs es) r = record { graph = (guards_call r.graph cs es).words; marks = r.marks }
 left (return_to k) r = record { graph = (return_call r.graph r.marks k).words; marks = (return_call r.graph r.marks k).marks }
 
 -- calls, the latest first, each handed the regions as the last left them
@@ -30,6 +32,7 @@ abbrev pub Spares : ℕ → Regions → Action → Type 0
 Spares n r (request q) = Unit {0}
 Spares n r (retain keep mapping) = (k : ℕ) → (retain_call r.graph r.marks keep mapping).retention.outcome ≡ retaining.kept k → ⊥
 Spares n r mark = Unit {0}
+Spares n r (guards cs es) = Unit {0}
 Spares n r (return_to k) = (return_call r.graph r.marks k).answer ≡ calls.done → n ≤ k
 
 -- each of some calls

@@ -10,7 +10,7 @@ use Rattle.record.specs.Record.{Bytes, Asked, asked}
 use Rattle.record.specs.Line.{BAD, answer_line, retain_line}
 use Rattle.record.specs.Perform.{Effect, effect_call}
 use Rattle.meaning.specs.Value.{Env}
-use Rattle.meaning.specs.Book.{Action, request, retain, mark, return_to, patterned, play, Unmarked}
+use Rattle.meaning.specs.Book.{Action, request, retain, mark, return_to, guards, patterned, play, Unmarked}
 
 -- ---- what records print and leave
 
@@ -62,12 +62,13 @@ calls_of (r ∷ before) = cond (is_over before) (calls_of before) (with_call (as
 
 -- ---- their answers
 
--- the line of a call's answer on a graph and its marks' region; no record is a mark or a return
+-- the line of a call's answer on a graph and its marks' region; no record is a mark, a return or a list of guards
 abbrev pub line_of : List ℕ → List ℕ → Action → List ℕ
 line_of g w (request q) = answer_line (request_call g (patterned q)).answer
 line_of g w (retain keep mapping) = retain_line (retain_call g w keep mapping).retention.outcome
 line_of g w mark = []
 line_of g w (return_to k) = []
+line_of g w (guards cs es) = []
 
 -- the answers to a list of calls, each on the graph that the ones before it left, a line for each
 unfoldable pub lines_of : Env → List ℕ → List Action → List ℕ

@@ -13,7 +13,7 @@ use Rattle.answer.specs.Refusal.{refusal_number}
 
 -- the refusals by their numbers
 abbrev refusals : List Refusal
-refusals = no.Graph ∷ no.Graph ∷ no.Width ∷ no.Id ∷ no.Typing ∷ no.Value ∷ no.Keep ∷ no.Room ∷ no.Units ∷ no.Marks ∷ no.Mark ∷ []
+refusals = no.Graph ∷ no.Graph ∷ no.Width ∷ no.Id ∷ no.Typing ∷ no.Value ∷ no.Keep ∷ no.Room ∷ no.Units ∷ no.Marks ∷ no.Mark ∷ no.Guards ∷ []
 
 refusal_back : (r : Refusal) → get_or refusals (refusal_number r) no.Graph ≡ r
 refusal_back no.Graph = refl
@@ -26,8 +26,9 @@ refusal_back no.Room = refl
 refusal_back no.Units = refl
 refusal_back no.Marks = refl
 refusal_back no.Mark = refl
+refusal_back no.Guards = refl
 
-refusal_between : (r : Refusal) → (0 < refusal_number r) × (refusal_number r < 11)
+refusal_between : (r : Refusal) → (0 < refusal_number r) × (refusal_number r < 12)
 refusal_between no.Graph = (omega arith, omega arith)
 refusal_between no.Width = (omega arith, omega arith)
 refusal_between no.Id = (omega arith, omega arith)
@@ -38,6 +39,7 @@ refusal_between no.Room = (omega arith, omega arith)
 refusal_between no.Units = (omega arith, omega arith)
 refusal_between no.Marks = (omega arith, omega arith)
 refusal_between no.Mark = (omega arith, omega arith)
+refusal_between no.Guards = (omega arith, omega arith)
 
 -- an id is below 2 ^ 63
 abbrev pub Small : Response → Type 0

@@ -62,13 +62,17 @@ finished g c = called c.answer (cond (is_refused c.answer) g c.words)
 
 -- ---- the call
 
--- a request on a graph: questions 2 to 5, then the work; `full` is the answer without room for a node
-unfoldable pub performed : Refusal → List ℕ → Request → Called
-performed full g q =
+-- questions 2 to 5, then what c comes to
+abbrev pub asked : List ℕ → Request → Called → Called
+asked g q c =
     question g (all_up_to WIDEST (widths q)) no.Width
     (question g (all_below (count_of g) (ids q)) no.Id
     (question g (typed g q) no.Typing
-    (question g (declarable q) no.Value (finished g (worked full g q)))))
+    (question g (declarable q) no.Value c)))
+
+-- a request on a graph: questions 2 to 5, then the work; `full` is the answer without room for a node
+unfoldable pub performed : Refusal → List ℕ → Request → Called
+performed full g q = asked g q (finished g (worked full g q))
 
 -- a request on a graph
 unfoldable pub request_in_graph : List ℕ → Request → Called

@@ -25,8 +25,8 @@ use request::questions::{are_ids, are_widths, is_declarable, is_typed};
 
 // The units of a call.
 pub const UNITS: u64 = 1024;
-// Up to so many nodes a guard keeps the alias words in a small place.
-const FEW: usize = 128;
+// Up to so many nodes guards keep the alias words in a small place.
+pub const FEW: usize = 128;
 
 pub(crate) fn full_budget() -> Budget
     ensures { result.units ≡ UNITS }

@@ -1,0 +1,4 @@
+pub mod Asked
+pub mod Lists
+pub mod Turns
+pub mod Kept
