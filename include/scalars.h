@@ -40,9 +40,9 @@ extern "C" {
 //
 // Every call answers one number of 64 bits: an id (below SCALARS_NODES), SCALARS_DONE, SCALARS_NONE, a number that its comment
 // names, or SCALARS_REFUSED(k): refused, since the answer to question k is no (SCALARS_REFUSAL_.. below). The questions that apply
-// to a call are asked in the order of their numbers, 9 and 10 after 3, and the first no is answered; of 7 and 8 it is the one met first.
-// After a refusal every lent word is as it was before the call. SCALARS_NONE is no refusal: there is no such node or value, and
-// nodes that were added on the way stay.
+// to a call are asked in the order of their numbers, 9 and 10 after 3 and 11 after 1, and the first no is answered; of 7 and 8 it is
+// the one met first, and a list of guards asks 3, 4 and 7 of each guard at its turn. After a refusal every lent word is as it was
+// before the call. SCALARS_NONE is no refusal: there is no such node or value, and nodes that were added on the way stay.
 //
 // A call that writes what it finds into a slice `out` answers 1. Where the slice has another length than what is to be written, the
 // answer is SCALARS_WRONG_LENGTH, and nothing is written.
@@ -70,7 +70,7 @@ extern "C" {
 // and the call's own frames. This is measured and not proved; tests/stack/run measures it again, and runs the worst calls found with a
 // stack of 512 KB.
 
-// Sizes, in words but for SCALARS_NODES, SCALARS_MARKS and SCALARS_WIDEST.
+// Sizes, in words but for SCALARS_NODES, SCALARS_MARKS, SCALARS_GUARDS and SCALARS_WIDEST.
 enum {
     SCALARS_REGION = 6145,       // the region
     SCALARS_NODES = 512,         // the most nodes of a graph
@@ -78,6 +78,7 @@ enum {
     SCALARS_MARKS_REGION = 8209, // the marks' region
     SCALARS_MARKS = 16,          // the most marks that stand
     SCALARS_MARK_WORDS = 513,    // a mark: its number of nodes, and an alias word for each node that there can be
+    SCALARS_GUARDS = 32,         // the most guards of a list
     SCALARS_VALUE_WORDS = 2,     // a value, low half first
     SCALARS_GUARD_WORDS = 5,     // what scalars_guard writes
     SCALARS_WIDEST = 128         // the widest Bits
@@ -171,7 +172,8 @@ enum {
     SCALARS_REFUSAL_ROOM = 7,   // there would be more than SCALARS_NODES nodes
     SCALARS_REFUSAL_UNITS = 8,  // the call would need more than 1,024 units, which are entries into builders
     SCALARS_REFUSAL_MARKS = 9,  // SCALARS_MARKS marks stand
-    SCALARS_REFUSAL_MARK = 10   // the mark named does not stand
+    SCALARS_REFUSAL_MARK = 10,  // the mark named does not stand
+    SCALARS_REFUSAL_GUARDS = 11 // a list has more than SCALARS_GUARDS guards, or not one answer, 0 or 1, for each condition
 };
 
 // The answers that are no ids. No two answers of one call share a number.
@@ -186,7 +188,7 @@ static inline int scalars_is_id(uint64_t answer) { return answer < SCALARS_NODES
 // The number of the refusal that an answer is, SCALARS_REFUSAL_..; 0 if it is none.
 static inline int scalars_refusal(uint64_t answer) {
     uint64_t number = UINT64_MAX - answer;
-    return number <= SCALARS_REFUSAL_MARK ? (int)number : 0;
+    return number <= SCALARS_REFUSAL_GUARDS ? (int)number : 0;
 }
 
 // The word of the region at which a node's words begin.
@@ -237,6 +239,13 @@ uint64_t scalars_unsigned_range(uint64_t *g, size_t g_length, uint64_t id, uint6
 // retain, or a return to a mark that was set before. Refused 3, 4, 7. Answers SCALARS_DONE, whether or not a range was narrowed.
 uint64_t scalars_assume_guard(uint64_t *g, size_t g_length, uint64_t condition, uint64_t expected);
 
+// A list of up to SCALARS_GUARDS guards: the conditions in their order, each with what is expected of it, its element of answers.
+// Each is taken as scalars_assume_guard takes it, on the graph that the one before left. Where one is refused, its refusal is
+// answered, and nothing is left of those before it. Refused 11; then, of each guard at its turn, 3, 4, 7. Answers SCALARS_DONE once
+// for all; an empty list changes nothing.
+uint64_t scalars_assume_guards(uint64_t *g, size_t g_length, const uint64_t *conditions, size_t conditions_length,
+                               const uint64_t *answers, size_t answers_length);
+
 // Keeps the nodes whose element of keep is 1, in their order, drops those whose element is 0, and drops all aliases. Both lists have
 // one element for each node. Into mapping goes each node's new id, SCALARS_NONE for a dropped one: ids that the caller holds are
 // to be replaced by it. No mark stands then, also where every node is kept. Refused 6. Answers the number of nodes left, up to
@@ -286,6 +295,10 @@ uint64_t scalars_unsigned_range_in_graph(uint64_t *g, size_t g_length, uint64_t 
 
 // As scalars_assume_guard. Refused 3, 4, 7.
 uint64_t scalars_assume_guard_in_graph(uint64_t *g, size_t g_length, uint64_t condition, uint64_t expected);
+
+// As scalars_assume_guards. Refused 11, 3, 4, 7: its lists may have any content and length.
+uint64_t scalars_assume_guards_in_graph(uint64_t *g, size_t g_length, const uint64_t *conditions, size_t conditions_length,
+                                        const uint64_t *answers, size_t answers_length);
 
 // As scalars_retain. Refused 6: its lists may have any content and length.
 uint64_t scalars_retain_in_graph(uint64_t *g, size_t g_length, uint64_t *m, size_t m_length, const uint8_t *keep, size_t keep_length,

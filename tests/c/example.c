@@ -1,5 +1,5 @@
-// An example for include/scalars.h: a reading from the bus is summed, compared, guarded and cut into fields, both arms of a branch are
-// built, and the graph is cleaned up.
+// An example for include/scalars.h: a reading from the bus is summed, compared, guarded and cut into fields, a frame is checked by a
+// list of guards, both arms of a branch are built, and the graph is cleaned up.
 // Every answer is checked; the first wrong one ends the program with its line. Built and run by tests/c/run.
 #include "scalars.h"
 #include <inttypes.h>
@@ -117,6 +117,21 @@ static uint64_t swap_bytes(uint64_t frame) {
     return swapped;
 }
 
+// A check of a frame yields several conditions together. All are assumed, or none where one is refused.
+static void check_frame(uint64_t frame) {
+    static uint64_t before[SCALARS_REGION];
+    uint64_t conditions[] = {is_less(frame, constant(500)), is_less(frame, constant(100)), SCALARS_NODES};
+    uint64_t answers[] = {1, 0, 1};
+    memcpy(before, region, sizeof region);
+    // The last id is that of no node.
+    uint64_t answer = scalars_assume_guards(region, SCALARS_REGION, conditions, 3, answers, 3);
+    CHECK(scalars_refusal(answer) == SCALARS_REFUSAL_ID);
+    CHECK(scalars_assume_guards(region, SCALARS_REGION, conditions, 2, answers, 3) == SCALARS_REFUSED(SCALARS_REFUSAL_GUARDS));
+    CHECK(memcmp(before, region, sizeof region) == 0);
+    CHECK(scalars_assume_guards(region, SCALARS_REGION, conditions, 2, answers, 2) == SCALARS_DONE);
+    check_range(scalars_resolve(region, SCALARS_REGION, frame), 100, 499);
+}
+
 // One arm of a branch: x is below 100 or it is not, as assumed. Answers the value that x < 100 folds to.
 static uint64_t build_arm(uint64_t x, uint64_t below, uint64_t assumed) {
     CHECK(scalars_assume_guard(region, SCALARS_REGION, below, assumed) == SCALARS_DONE);
@@ -216,6 +231,7 @@ int main(void) {
     uint64_t below = narrow(x);
     match_guard(below, x);
     uint64_t swapped = swap_bytes(frame);
+    check_frame(frame);
     branch(x);
     evaluate();
     refuse(x);

@@ -23,6 +23,7 @@ static const struct {
     WITH_TWIN(scalars_concat),
     WITH_TWIN(scalars_unsigned_range),
     WITH_TWIN(scalars_assume_guard),
+    WITH_TWIN(scalars_assume_guards),
     WITH_TWIN(scalars_retain),
     WITH_TWIN(scalars_mark),
     WITH_TWIN(scalars_return_to),

@@ -305,6 +305,40 @@ impl Graph {
         self.grown(granted(answer).map(|_| ()))
     }
 
+    /// Takes a list of up to 32 conditions, each to be true or false as its pair says, in the list's order, each on the graph
+    /// that the one before left: as [`Graph::assume_guard`] one after the other, but that none of them is taken where one
+    /// is refused. An empty list changes nothing.
+    ///
+    /// ```
+    /// use scalars::{Binary, Graph, Range, Refusal, ScalarType};
+    ///
+    /// let mut graph = Graph::default();
+    /// let angle = graph.input(0, ScalarType::Bits(16), None);
+    /// let [low, high] = [20, 200].map(|limit| {
+    ///     let limit = graph.constant(ScalarType::Bits(16), limit);
+    ///     graph.binary(ScalarType::Bool, Binary::LessUnsigned, angle, limit).unwrap()
+    /// });
+    /// let refused = graph.try_assume_guards(&[(high, true), (angle, true)]);
+    /// assert_eq!(refused, Err(Refusal::Typing));
+    /// assert_eq!(graph.resolve(angle), angle);
+    /// graph.assume_guards(&[(high, true), (low, false)]);
+    /// let narrowed = graph.resolve(angle);
+    /// assert_eq!(graph.scalars[narrowed].range, Some(Range { min: 20, max: 199 }));
+    /// ```
+    ///
+    /// # Panics
+    /// If it is refused: 11 (more than 32 guards), or what the first guard that is refused is refused: 3, 4 or 7.
+    #[track_caller]
+    pub fn assume_guards(&mut self, guards: &[(ScalarId, bool)]) {
+        expected(self.try_assume_guards(guards));
+    }
+
+    /// As [`Graph::assume_guards`], with the refusal as an answer.
+    pub fn try_assume_guards(&mut self, guards: &[(ScalarId, bool)]) -> Result<(), Refusal> {
+        let answer = self.region.assume_guards(guards);
+        self.grown(granted(answer).map(|_| ()))
+    }
+
     /// The node that stands for this one since a guard, or the node itself.
     ///
     /// # Panics

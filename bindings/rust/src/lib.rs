@@ -13,6 +13,7 @@
 //!   original's shape panic with the refusal's words, their twins `try_..` answer it.
 //! - `graph.scalars` is read and cannot be changed.
 //! - A [`Graph`] has marks: [`Graph::mark`] remembers it, [`Graph::return_to`] makes it what it was.
+//! - [`Graph::assume_guards`] takes a list of guards, or none of them.
 //! - `guard` and `Guard`, which stand in the original's module `linear`, stand here and in [`linear`].
 mod answer;
 mod evaluate;

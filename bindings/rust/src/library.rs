@@ -5,6 +5,8 @@ use crate::types::{WORDS, halves};
 pub(crate) const NODES: usize = 512;
 /// The words of a graph: the number of its nodes, and twelve for each.
 const REGION: usize = 1 + WORDS * NODES;
+/// The most guards of a list.
+const GUARDS: usize = 32;
 /// The most marks that stand.
 const MOST: usize = 16;
 /// The words of a mark: the number of its nodes, and an alias word for each node that there can be.
@@ -91,6 +93,14 @@ mod exported {
             words: usize,
             condition: u64,
             expected: u64,
+        ) -> u64;
+        pub fn scalars_assume_guards_in_graph(
+            g: *mut u64,
+            words: usize,
+            conditions: *const u64,
+            conditions_len: usize,
+            answers: *const u64,
+            answers_len: usize,
         ) -> u64;
         pub fn scalars_retain_in_graph(
             g: *mut u64,
@@ -318,6 +328,31 @@ impl Region {
             condition,
             expected.into()
         )
+    }
+
+    /// Of a list that is too long the first guards are lent, one more than a list holds: the library refuses it by its
+    /// length, before it looks at any guard, as it would the whole. So the number of the refusal and its place among the
+    /// questions are the library's, and two arrays suffice for a list of any length.
+    pub fn assume_guards(&mut self, guards: &[(usize, bool)]) -> u64 {
+        let (mut conditions, mut answers) = ([0; GUARDS + 1], [0; GUARDS + 1]);
+        let places = conditions.iter_mut().zip(&mut answers);
+        for ((condition, answer), (id, expected)) in places.zip(guards) {
+            (*condition, *answer) = (*id as u64, (*expected).into());
+        }
+        let length = guards.len().min(GUARDS + 1);
+        let (conditions, answers) = (&conditions[..length], &answers[..length]);
+        // SAFETY: the region is a graph (see `Region`), lent whole and to nobody else. The two lists are lent whole too, are
+        // not written, and may have any content and length.
+        unsafe {
+            exported::scalars_assume_guards_in_graph(
+                self.graph.as_mut_ptr(),
+                REGION,
+                conditions.as_ptr(),
+                length,
+                answers.as_ptr(),
+                length,
+            )
+        }
     }
 
     pub fn retain(&mut self, keep: &[bool], mapping: &mut [usize]) -> u64 {

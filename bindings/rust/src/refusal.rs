@@ -25,9 +25,11 @@ pub enum Refusal {
     Marks,
     /// 10: the mark named does not stand.
     Mark,
+    /// 11: a list has more than 32 guards.
+    Guards,
 }
 
-const REFUSALS: [Refusal; 10] = [
+const REFUSALS: [Refusal; 11] = [
     Refusal::Region,
     Refusal::Width,
     Refusal::Id,
@@ -38,6 +40,7 @@ const REFUSALS: [Refusal; 10] = [
     Refusal::Units,
     Refusal::Marks,
     Refusal::Mark,
+    Refusal::Guards,
 ];
 
 impl Refusal {
@@ -68,6 +71,7 @@ impl Refusal {
             Refusal::Units => "the call needs more than 1,024 steps",
             Refusal::Marks => "sixteen marks stand already",
             Refusal::Mark => "the mark does not stand",
+            Refusal::Guards => "a list holds 32 guards at most",
         }
     }
 }

@@ -1,4 +1,5 @@
-// The binding from outside: what a graph is, every refusal with the graph as it was, clones, retains, marks and pictures.
+// The binding from outside: what a graph is, every refusal with the graph as it was, lists of guards, clones, retains, marks and
+// pictures.
 use scalars::ScalarType::{Bits, Bool, Integer};
 use scalars::{Binary, Graph, Operation, Range, Refusal, Scalar, Unary, mask};
 use std::fmt::{Debug, Display};
@@ -99,6 +100,112 @@ fn too_many_units_are_refused() {
         refused(&mut graph, |g| g.try_slice(sum, 0, 32)),
         Refusal::Units
     );
+}
+
+// A graph with so many inputs of 8 bits, and whether each is below 5.
+fn conditions(inputs: usize) -> (Graph, Vec<usize>) {
+    let mut graph = Graph::default();
+    let limit = graph.constant(Bits(8), 5);
+    let ids = (0..inputs).map(|number| {
+        let x = graph.input(number, Bits(8), None);
+        graph.binary(Bool, Binary::LessUnsigned, x, limit).unwrap()
+    });
+    let ids = ids.collect();
+    (graph, ids)
+}
+
+#[test]
+fn a_list_of_guards_is_its_guards_one_by_one() {
+    for length in 0..=32 {
+        let (mut graph, ids) = conditions(20);
+        let places = (0..length).map(|place| (ids[place * 7 % 20], place % 3 != 0));
+        let guards: Vec<(usize, bool)> = places.collect();
+        let mut single = graph.clone();
+        for (condition, expect) in &guards {
+            single.assume_guard(*condition, *expect);
+        }
+        graph.assume_guards(&guards);
+        assert_eq!(format!("{graph:?}"), format!("{single:?}"));
+    }
+}
+
+#[test]
+fn an_empty_list_of_guards_changes_nothing() {
+    let mut graph = small();
+    let before = format!("{graph:?}");
+    graph.assume_guards(&[]);
+    Graph::default().assume_guards(&[]);
+    assert_eq!(format!("{graph:?}"), before);
+}
+
+#[test]
+fn a_list_of_guards_is_wholly_left_where_one_is_refused() {
+    let (graph, ids) = &mut conditions(3);
+    let valid: Vec<(usize, bool)> = ids.iter().map(|id| (*id, true)).collect();
+    for (wrong, refusal) in [
+        (1, Refusal::Typing),
+        (99, Refusal::Id),
+        ((1 << 32) + ids[0], Refusal::Id),
+        (usize::MAX, Refusal::Id),
+    ] {
+        for place in 0..=valid.len() {
+            let mut guards = valid.clone();
+            guards.insert(place, (wrong, true));
+            assert_eq!(refused(graph, |g| g.try_assume_guards(&guards)), refusal);
+        }
+    }
+    // The first guard adds node 7, which is there by the turn of the second, and no Bool.
+    let count = graph.scalars.len();
+    let found = [valid[0], (count, true)];
+    let idle = [(count, true), valid[0]];
+    assert_eq!(
+        refused(graph, |g| g.try_assume_guards(&found)),
+        Refusal::Typing
+    );
+    assert_eq!(refused(graph, |g| g.try_assume_guards(&idle)), Refusal::Id);
+}
+
+#[test]
+fn a_list_of_33_guards_is_refused() {
+    let (mut graph, ids) = conditions(33);
+    let guards: Vec<(usize, bool)> = ids.iter().map(|id| (*id, true)).collect();
+    for length in [33, 34, 257, 1000, 65537] {
+        // Before its guards are looked at: a node is no condition, another id is none.
+        for id in [ids[0], 0, usize::MAX] {
+            let long = vec![(id, true); length];
+            assert_eq!(
+                refused(&mut graph, |g| g.try_assume_guards(&long)),
+                Refusal::Guards
+            );
+        }
+    }
+    assert_eq!(
+        refused(&mut graph, |g| g.try_assume_guards(&guards)),
+        Refusal::Guards
+    );
+    graph.assume_guards(&guards[..32]);
+    assert_eq!(graph.scalars.len(), 1 + 2 * 33 + 32);
+}
+
+#[test]
+fn a_list_of_guards_that_has_no_room_is_refused() {
+    let (mut graph, ids) = conditions(2);
+    for number in graph.scalars.len()..511 {
+        graph.effect(number, Integer);
+    }
+    let guards = [(ids[0], true), (ids[1], true)];
+    assert_eq!(
+        refused(&mut graph, |g| g.try_assume_guards(&guards)),
+        Refusal::Room
+    );
+    graph.assume_guards(&guards[..1]);
+    assert_eq!((graph.scalars.len(), graph.alias(1)), (512, Some(511)));
+}
+
+#[test]
+#[should_panic(expected = "refused 11: a list holds 32 guards at most")]
+fn a_list_of_guards_that_is_too_long_panics() {
+    small().assume_guards(&[(3, true); 33]);
 }
 
 #[test]
