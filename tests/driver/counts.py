@@ -1,5 +1,5 @@
 #!/usr/bin/env python3
-"""Instructions of each builder's call, of guards, retain and the slowest slices, on both sides, by callgrind, as a table.
+"""Instructions of each builder's call, of guards, eight guards, retain and the slowest slices, on both sides, by callgrind, as a table.
 
     ./staticlib
     cargo build --release --offline --manifest-path tests/driver/Cargo.toml
@@ -32,9 +32,10 @@ def main():
                 original, library = (count(driver, builder, nodes, node, side) for side in ["original", "library"])
                 cells += f" {original} | {library} | {library / original:.2f} |"
             print(f"| {builder} | {nodes} |{cells}", flush=True)
-    # A guard on a new node narrows one, on an old one nothing; a retain and a slow slice have no old node.
+    # A guard on a new node narrows one, on an old one nothing, and each of eight does; a retain and a slow slice have no old node.
+    eight = [(name, node) for node in ["new", "old"] for name in ["eight guards", "list of eight guards"]]
     for nodes in ["16", "128", "500"]:
-        for name, node in [("guard", "new"), ("guard", "old"), ("retain", "new")]:
+        for name, node in [("guard", "new"), ("guard", "old"), *eight, ("retain", "new")]:
             original, library = (count(driver, name, nodes, node, side) for side in ["original", "library"])
             print(f"| {name}, {node} | {nodes} | {original} | {library} | {library / original:.2f} |", flush=True)
     original, library = (count(driver, "slices of concats", "16", "new", side) for side in ["original", "library"])

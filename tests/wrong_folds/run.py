@@ -162,6 +162,13 @@ WRONG = [
      "put_back calls.done k bs b = get_or bs k blank", "put_back calls.done k bs b = record { lines = b.lines; conditions = (get_or bs k blank).conditions }"),
     ("a book that forgets the mark returned to", "meaning", "Book",
      "forgets calls.done k bs = take (suc k) bs", "forgets calls.done k bs = take k bs"),
+    ("a list of guards that goes on after a refusal", "guard_list", "GuardList",
+     "cond (is_refused (request_in_graph g q).answer) (request_in_graph g q) (in_turn (request_in_graph g q).words qs)", "in_turn (request_in_graph g q).words qs"),
+    ("each guard of a list on the first graph", "guard_list", "GuardList", "(in_turn (request_in_graph g q).words qs)", "(in_turn g qs)"),
+    ("a refused list that keeps the guards before it", "guard_list", "GuardList",
+     "no.Guards (finished g (in_turn g (guards_of cs es)))", "no.Guards (in_turn g (guards_of cs es))"),
+    ("a list of 33 guards", "guard_list", "GuardList", "MOST = 32", "MOST = 33"),
+    ("an answer of 2 in a list", "guard_list", "GuardList", "(λ e. leb e 1)", "(λ e. leb e 2)"),
 ]
 
 
@@ -218,7 +225,7 @@ def needed_laws():
 
 def copy(room):
     lines, laws = [], needed_laws()
-    needed = ["bit_laws", "word", "answer", "text", "request", "record", "range", "evaluate", "graph", "fold", "bitfield", "plan", "plan_slice", "plan_binary", "guard", "assume", "build", "retain", "native", "mark", "meaning"]
+    needed = ["bit_laws", "word", "answer", "text", "request", "record", "range", "evaluate", "graph", "fold", "bitfield", "plan", "plan_slice", "plan_binary", "guard", "assume", "build", "retain", "native", "guard_list", "mark", "meaning"]
     for line in (ROOT / "crates.txt").read_text().splitlines():
         name = line.partition(":")[0].strip()
         if name in needed:

@@ -1,8 +1,9 @@
 // The library's side through the Rust binding: on a region that calls have grown from zeros, each call is the binding's,
 // and what it shows of its graph is written back as words. Other regions, and what the binding's types can't say, go to
 // the exported functions. The marks that it holds are seen by returns to them.
-use crate::call::{Answer, Call, Marking, Ready, Side, binary_of, unary_of};
+use crate::call::{Answer, Call, ListFunction, Marking, Ready, Side, binary_of, unary_of};
 use crate::library::InGraph;
+use crate::lists::GuardList;
 use crate::marks::mark_start;
 use crate::native;
 use crate::words::{ALIAS, REGION, WORDS, alias_word, node_words, start_of};
@@ -233,6 +234,15 @@ fn matched(op: u64, expected: u64, host64: u64, left: u128, right: u128) -> Opti
     })
 }
 
+// A list of guards as the binding takes it, if its types can say it: one answer, true or false, for each condition.
+fn bound_guards(list: &GuardList) -> Option<Vec<(ScalarId, bool)>> {
+    let is_there = list.told.is_none() && list.conditions.len() == list.answers.len();
+    let guards = list
+        .guards()
+        .map(|(condition, expected)| Some((condition as usize, truth(expected)?)));
+    guards.collect::<Option<_>>().filter(|_| is_there)
+}
+
 // A call that looks at no region.
 fn evaluated(call: &Call) -> Option<Answer> {
     let value = match *call {
@@ -370,6 +380,18 @@ impl Binding {
         Some(answer)
     }
 
+    // A list of guards.
+    fn listed(&mut self, region: &mut [u64], guards: &[(ScalarId, bool)]) -> Answer {
+        MADE.set(MADE.get() + 1);
+        let count = self.graph.scalars.len();
+        let answer = match self.graph.try_assume_guards(guards) {
+            Ok(()) => Answer::Done,
+            Err(refusal) => Answer::Refused(refusal.number()),
+        };
+        self.show(count, region);
+        answer
+    }
+
     // A retain, if the binding's types can say it.
     fn retained(
         &mut self,
@@ -449,6 +471,17 @@ impl Side for Binding {
             None
         };
         made.or_else(|| InGraph.retain(region, marks, keep, mapping))
+    }
+
+    fn guards(&mut self, region: &mut [u64], list: &GuardList) -> Option<Answer> {
+        match bound_guards(list) {
+            Some(guards) if self.holds(region) => Some(self.listed(region, &guards)),
+            _ => InGraph.guards(region, list),
+        }
+    }
+
+    fn list_function(&self) -> Option<ListFunction> {
+        InGraph.list_function()
     }
 
     fn ready(&self, call: &Call) -> Option<Ready> {

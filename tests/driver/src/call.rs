@@ -1,4 +1,5 @@
 // The calls and their answers.
+use crate::lists::GuardList;
 use crate::native::{Binary, Range, ScalarType, Unary};
 use crate::operators::{self, BINARY_CODE, UNARY_CODE};
 use crate::words::WORDS;
@@ -185,6 +186,10 @@ pub enum Marking {
     ReturnTo(u64),
 }
 
+// The library's function for lists of guards: the region, the conditions and the answers.
+pub type ListFunction =
+    unsafe extern "C" fn(*mut u64, usize, *const u64, usize, *const u64, usize) -> u64;
+
 // One side of the comparison.
 pub trait Side {
     // The calls that follow are on this region, and no mark stands.
@@ -200,6 +205,16 @@ pub trait Side {
 
     // A retain on both regions, with the keep list and the lent mapping, where the side has it.
     fn retain(&mut self, _: &mut [u64], _: &mut [u64], _: &[u8], _: &mut [u64]) -> Option<Answer> {
+        None
+    }
+
+    // A list of guards on the region, where the side has them.
+    fn guards(&mut self, _: &mut [u64], _: &GuardList) -> Option<Answer> {
+        None
+    }
+
+    // The function that takes one, where the side is the library.
+    fn list_function(&self) -> Option<ListFunction> {
         None
     }
 

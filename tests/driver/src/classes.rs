@@ -47,6 +47,8 @@ pub struct Rounds {
     pub numbers: Source,
     // For the calls with marks.
     pub marks: Source,
+    // For the lists of guards.
+    pub lists: Source,
     pub comparison: Comparison,
     // How often a word of each kind was changed, and how often the region was no graph then.
     pub damages: Vec<[u64; 2]>,
@@ -64,7 +66,7 @@ impl Rounds {
 
     // Begins a list of calls on a graph that calls have grown, with the original's own maps. Every other list is put
     // to the tier for regions that are known to be graphs.
-    fn begin(&mut self, class: &'static str, graph: Graph) -> List {
+    pub fn begin(&mut self, class: &'static str, graph: Graph) -> List {
         let mut region = vec![0; REGION];
         encode(&graph, &mut region);
         self.comparison.start(class, &region);
@@ -386,6 +388,7 @@ impl Rounds {
         }
         if self.source.has_numbers {
             self.choices()?;
+            self.list_edges()?;
         }
         Ok(())
     }
@@ -411,6 +414,7 @@ impl Rounds {
         if self.source.has_numbers {
             self.numbers()?;
             self.marks()?;
+            self.lists()?;
         }
         self.other_length()
     }

@@ -1,6 +1,7 @@
 // Puts a call to both sides, compares the answers and every word, and counts. A difference is made small and told.
 use crate::call::{Answer, Call, Side};
 use crate::classes;
+use crate::lists::{GuardList, Lists, take_on};
 use crate::marks::no_marks;
 use crate::meter;
 use crate::native::Graph;
@@ -19,13 +20,20 @@ pub struct Counts {
     pub kinds: BTreeMap<&'static str, u64>,
 }
 
-// A call that the two sides answer or perform differently.
-struct Difference {
-    region: Vec<u64>,
-    call: Call,
-    right: (Answer, Vec<u64>),
-    found: (Answer, Vec<u64>),
-    is_twin: bool,
+// What is put to both sides.
+#[derive(Clone, Debug)]
+pub enum Asked {
+    Call(Call),
+    List(GuardList),
+}
+
+// What the two sides answer or perform differently.
+pub struct Difference {
+    pub region: Vec<u64>,
+    pub asked: Asked,
+    pub right: (Answer, Vec<u64>),
+    pub found: (Answer, Vec<u64>),
+    pub is_twin: bool,
 }
 
 // The regions that a call is handed, and what the marks' must be after it.
@@ -45,6 +53,8 @@ pub struct Comparison {
     pub counts: BTreeMap<&'static str, Counts>,
     // The retains by class and kind.
     pub retains: BTreeMap<&'static str, BTreeMap<&'static str, u64>>,
+    // The lists of guards.
+    pub lists: Lists,
     pub class: &'static str,
     // The words as the original has them: before a call those of the region, after it those that must be there.
     pub right: Vec<u64>,
@@ -52,7 +62,7 @@ pub struct Comparison {
     pub unmarked: [Vec<u64>; 2],
 }
 
-pub const REFUSALS: [&str; 11] = [
+pub const REFUSALS: [&str; 12] = [
     "refused 0",
     "refused 1",
     "refused 2",
@@ -64,6 +74,7 @@ pub const REFUSALS: [&str; 11] = [
     "refused 8",
     "refused 9",
     "refused 10",
+    "refused 11",
 ];
 
 // What a guard that is assumed has done. A node that gets an alias is narrowed by a new Refine or by one that stood
@@ -151,8 +162,8 @@ pub fn differing(right: &[u64], found: &[u64]) -> String {
 }
 
 impl Difference {
-    fn described(&self) -> String {
-        let mut text = format!("call: {:?}\non:\n{}", self.call, described(&self.region));
+    pub fn described(&self) -> String {
+        let mut text = format!("call: {:?}\non:\n{}", self.asked, described(&self.region));
         let tier = if self.is_twin { " in graph" } else { "" };
         let _ = writeln!(text, "original: {:?}", self.right.0);
         let _ = writeln!(text, "compared{tier}: {:?}", self.found.0);
@@ -169,6 +180,7 @@ impl Comparison {
             has_both: false,
             counts: BTreeMap::new(),
             retains: BTreeMap::new(),
+            lists: Lists::default(),
             class: "",
             right: vec![],
             unmarked: [no_marks(), no_marks()],
@@ -275,7 +287,7 @@ impl Comparison {
         }
         let difference = Difference {
             region: self.before(count),
-            call: *call,
+            asked: Asked::Call(*call),
             right: (right, self.right.clone()),
             found: (found, region.to_vec()),
             is_twin: self.is_twin,
@@ -304,14 +316,20 @@ impl Comparison {
     }
 
     // The difference on this region, if there is one where the maps are filled from it.
-    fn differs(&mut self, region: &[u64], call: &Call) -> Option<Difference> {
+    fn differs(&mut self, region: &[u64], asked: &Asked) -> Option<Difference> {
         let mut right = region.to_vec();
         let mut found = region.to_vec();
-        let right_answer = Original.call(&mut right, call);
-        let found_answer = self.ask(&mut found, call, right_answer);
+        let right_answer = match asked {
+            Asked::Call(call) => Original.call(&mut right, call),
+            Asked::List(list) => take_on(&mut right, list),
+        };
+        let found_answer = match asked {
+            Asked::Call(call) => self.ask(&mut found, call, right_answer),
+            Asked::List(list) => self.tier(right_answer).guards(&mut found, list)?,
+        };
         (right_answer != found_answer || right != found).then(|| Difference {
             region: region.to_vec(),
-            call: *call,
+            asked: asked.clone(),
             right: (right_answer, right),
             found: (found_answer, found),
             is_twin: self.is_twin,
@@ -327,7 +345,7 @@ impl Comparison {
         let mut region = difference.region.clone();
         region[0] = count - 1;
         region[start_of(count as usize - 1)..][..WORDS].fill(0);
-        self.differs(&region, &difference.call)
+        self.differs(&region, &difference.asked)
     }
 
     // The difference with these words zero, if they are not already and it is still one.
@@ -338,14 +356,29 @@ impl Comparison {
         }
         let mut region = difference.region.clone();
         region[at].fill(0);
-        self.differs(&region, &difference.call)
+        self.differs(&region, &difference.asked)
     }
 
-    // The difference with as few nodes and as few words as keep it.
-    fn smaller(&mut self, mut difference: Difference) -> Difference {
+    // The difference with a guard less in its list, if it is one of a list and still one.
+    fn without_guard(&mut self, difference: &Difference) -> Option<Difference> {
+        let Asked::List(list) = &difference.asked else {
+            return None;
+        };
+        (0..list.conditions.len()).find_map(|place| {
+            let list = list.without(place)?;
+            self.differs(&difference.region, &Asked::List(list))
+        })
+    }
+
+    // The difference with as few guards, nodes and words as keep it.
+    pub fn smaller(&mut self, mut difference: Difference) -> Difference {
         let mut is_smaller = true;
         while is_smaller {
             is_smaller = false;
+            while let Some(other) = self.without_guard(&difference) {
+                difference = other;
+                is_smaller = true;
+            }
             while let Some(other) = self.without_last(&difference) {
                 difference = other;
                 is_smaller = true;

@@ -28,7 +28,7 @@ pub fn is_comparison(scalar: &Scalar) -> bool {
     matches!(scalar.operation, Operation::Binary(op, ..) if COMPARISONS.contains(&binary_code(op)))
 }
 
-fn is_not(scalar: &Scalar) -> bool {
+pub fn is_not(scalar: &Scalar) -> bool {
     matches!(scalar.operation, Operation::Unary(Unary::BoolNot, _))
 }
 

@@ -1,5 +1,6 @@
 // The proved library's side, through the functions that it exports.
-use crate::call::{Answer, Call, Marking, Ready, Side};
+use crate::call::{Answer, Call, ListFunction, Marking, Ready, Side};
+use crate::lists::GuardList;
 use crate::words::{UNTOUCHED, WORDS, halves, joined};
 
 // The functions that have a twin for a caller that knows the region to be a graph.
@@ -14,6 +15,7 @@ struct Tier {
     concat: unsafe extern "C" fn(*mut u64, usize, u64, u64, u64, u64) -> u64,
     unsigned_range: unsafe extern "C" fn(*mut u64, usize, u64, u64, u64, u64, u64) -> u64,
     assume_guard: unsafe extern "C" fn(*mut u64, usize, u64, u64) -> u64,
+    assume_guards: ListFunction,
     retain: Retain,
     mark: unsafe extern "C" fn(*const u64, usize, *mut u64, usize) -> u64,
     return_to: unsafe extern "C" fn(*mut u64, usize, *mut u64, usize, u64) -> u64,
@@ -61,6 +63,25 @@ twins! {
         (id, low_low, low_high, high_low, high_high);
     scalars_assume_guard / scalars_assume_guard_in_graph (condition, expected);
 }
+
+macro_rules! lists {
+    ($($name:ident)*) => {
+        unsafe extern "C" {
+            $(
+                fn $name(
+                    g: *mut u64,
+                    len: usize,
+                    conditions: *const u64,
+                    conditions_len: usize,
+                    answers: *const u64,
+                    answers_len: usize,
+                ) -> u64;
+            )*
+        }
+    };
+}
+
+lists! { scalars_assume_guards scalars_assume_guards_in_graph }
 
 macro_rules! retains {
     ($($name:ident)*) => {
@@ -164,6 +185,7 @@ const ASKING: Tier = Tier {
     concat: scalars_concat,
     unsigned_range: scalars_unsigned_range,
     assume_guard: scalars_assume_guard,
+    assume_guards: scalars_assume_guards,
     retain: scalars_retain,
     mark: scalars_mark,
     return_to: scalars_return_to,
@@ -183,6 +205,7 @@ const IN_GRAPH: Tier = Tier {
     concat: scalars_concat_in_graph,
     unsigned_range: scalars_unsigned_range_in_graph,
     assume_guard: scalars_assume_guard_in_graph,
+    assume_guards: scalars_assume_guards_in_graph,
     retain: scalars_retain_in_graph,
     mark: scalars_mark_in_graph,
     return_to: scalars_return_to_in_graph,
@@ -210,7 +233,7 @@ fn answer_of(number: u64) -> Answer {
     }
     match u64::MAX - number {
         0 => Answer::None,
-        refusal @ 1..=10 => Answer::Refused(refusal),
+        refusal @ 1..=11 => Answer::Refused(refusal),
         _ => Answer::Id(number),
     }
 }
@@ -233,6 +256,13 @@ fn lent<const WRITTEN: usize>(
         Some(words) if is_written => Ok(*words),
         _ => Err(answer_of(number)),
     }
+}
+
+// The words, and after them some that no call may change.
+fn with_words_after(words: &[u64]) -> Vec<u64> {
+    let mut lent = vec![UNTOUCHED; words.len() + PAST];
+    lent[..words.len()].copy_from_slice(words);
+    lent
 }
 
 // The value in two lent words.
@@ -367,6 +397,23 @@ impl Tier {
         }
     }
 
+    // A list of guards. Its slices are lent with words after them, and all of these must stay.
+    //
+    // SAFETY: as for retain, of the graph's region alone.
+    unsafe fn listed(&self, region: &mut [u64], list: &GuardList) -> Answer {
+        let (g, len) = (region.as_mut_ptr(), region.len());
+        let mut lent = [&list.conditions, &list.answers].map(|words| with_words_after(words));
+        let before = lent.clone();
+        let [conditions, answers] = lent.each_mut().map(|words| words.as_mut_ptr().cast_const());
+        let [conditions_len, answers_len] = list.lengths();
+        let call = self.assume_guards;
+        let number = unsafe { call(g, len, conditions, conditions_len, answers, answers_len) };
+        if lent != before {
+            return Answer::Spoilt;
+        }
+        answer_of(number)
+    }
+
     // SAFETY: as for retain.
     unsafe fn marking(&self, region: &mut [u64], marks: &mut [u64], call: Marking) -> Answer {
         let (g, len) = (region.as_mut_ptr(), region.len());
@@ -453,6 +500,15 @@ impl Side for Library {
         Some(unsafe { ASKING.retained(region, marks, keep, mapping) })
     }
 
+    fn guards(&mut self, region: &mut [u64], list: &GuardList) -> Option<Answer> {
+        // SAFETY: these functions ask nothing of their caller.
+        Some(unsafe { ASKING.listed(region, list) })
+    }
+
+    fn list_function(&self) -> Option<ListFunction> {
+        Some(ASKING.assume_guards)
+    }
+
     fn ready(&self, call: &Call) -> Option<Ready> {
         ASKING.ready(call)
     }
@@ -485,6 +541,15 @@ impl Side for InGraph {
     ) -> Option<Answer> {
         // SAFETY: the caller made the regions a graph with its marks.
         Some(unsafe { IN_GRAPH.retained(region, marks, keep, mapping) })
+    }
+
+    fn guards(&mut self, region: &mut [u64], list: &GuardList) -> Option<Answer> {
+        // SAFETY: the caller made the region a graph.
+        Some(unsafe { IN_GRAPH.listed(region, list) })
+    }
+
+    fn list_function(&self) -> Option<ListFunction> {
+        Some(IN_GRAPH.assume_guards)
     }
 
     fn ready(&self, call: &Call) -> Option<Ready> {

@@ -1,5 +1,5 @@
 // Compares the proved library with the original on random calls: the answers, and every word after every call.
-// usage: driver [--program PATH | self | marks] [SEED [ROUNDS]]   or   driver times   or   driver one NAME NODES old|new original|library   or   driver vectors FOLDER
+// usage: driver [--program PATH | self | marks | lists] [SEED [ROUNDS]]   or   driver times   or   driver one NAME NODES old|new original|library   or   driver vectors FOLDER
 #[cfg(library)]
 mod binding;
 mod builders;
@@ -17,6 +17,10 @@ mod guards;
 #[cfg(library)]
 mod library;
 mod lines;
+mod list_edges;
+mod list_rounds;
+mod list_times;
+mod lists;
 mod mark_regions;
 mod mark_times;
 mod marked;
@@ -52,7 +56,7 @@ mod vectors;
 mod words;
 
 use call::Side;
-use classes::Rounds;
+use classes::{Outcome, Rounds};
 use compare::Comparison;
 use generate::Source;
 use marks::Filled;
@@ -94,15 +98,36 @@ fn number(text: &str) -> u64 {
 }
 
 // Rounds of the calls with marks alone.
-fn compare_marks(seed: u64, rounds: u64) -> ExitCode {
+fn compare_marks((seed, rounds): (u64, u64)) -> ExitCode {
     println!("seed {seed:#x}, {rounds} rounds with marks alone\n");
     let mut all = all_rounds(library(), Some(twin()), true, seed);
     let compared = (0..rounds).try_for_each(|_| all.marks());
+    told(&all, compared)
+}
+
+// The lists of guards alone: those that do not depend on the seed, and rounds.
+fn compare_lists((seed, rounds): (u64, u64)) -> ExitCode {
+    println!("seed {seed:#x}, {rounds} rounds with lists of guards alone\n");
+    let mut all = all_rounds(library(), Some(twin()), true, seed);
+    let compared = all
+        .list_edges()
+        .and_then(|()| (0..rounds).try_for_each(|_| all.lists()));
+    let code = told(&all, compared);
+    let missing = report::missing_lists(&all.comparison);
+    if code == ExitCode::SUCCESS && rounds >= WHOLE && !missing.is_empty() {
+        println!("NEVER MET: {}", missing.join("; "));
+        return ExitCode::FAILURE;
+    }
+    code
+}
+
+// The report of what was compared, or the difference.
+fn told(all: &Rounds, compared: Outcome) -> ExitCode {
     if let Err(difference) = compared {
         println!("DIFFERENCE\n{}", difference);
         return ExitCode::FAILURE;
     }
-    report::print(&all);
+    report::print(all);
     #[cfg(library)]
     println!("calls through the Rust binding: {}", binding::made());
     ExitCode::SUCCESS
@@ -118,6 +143,7 @@ fn all_rounds(
         source: Source::new(seed, has_numbers),
         numbers: Source::new(!seed, has_numbers),
         marks: Source::new(seed.rotate_left(32), has_numbers),
+        lists: Source::new(seed.rotate_left(16), has_numbers),
         comparison: Comparison::new(side, twin),
         damages: vec![[0; 2]; WORD_KINDS.len()],
     }
@@ -189,10 +215,8 @@ fn main() -> ExitCode {
             ExitCode::SUCCESS
         }
         ["one", name, nodes, node, side] => one(name, nodes, node, side),
-        ["marks", rest @ ..] => {
-            let (seed, rounds) = numbers(rest);
-            compare_marks(seed, rounds)
-        }
+        ["marks", rest @ ..] => compare_marks(numbers(rest)),
+        ["lists", rest @ ..] => compare_lists(numbers(rest)),
         // The original on a graph filled from the region, against the graph that it has grown.
         ["self", rest @ ..] => run(Box::new(Filled), None, true, rest),
         ["--program", path, rest @ ..] => run(Box::new(Program::new(path)), None, false, rest),

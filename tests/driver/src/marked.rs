@@ -33,7 +33,7 @@ pub struct MarkedList {
 }
 
 impl MarkedList {
-    fn new(list: List) -> Self {
+    pub fn new(list: List) -> Self {
         MarkedList {
             list,
             marks: no_marks(),
@@ -209,11 +209,11 @@ impl Rounds {
         Ok(answer)
     }
 
-    fn mark_in(&mut self, list: &mut MarkedList) -> Result<Answer, String> {
+    pub fn mark_in(&mut self, list: &mut MarkedList) -> Result<Answer, String> {
         self.comparison.marking_grown(list, Marking::Mark)
     }
 
-    fn return_in(&mut self, list: &mut MarkedList, mark: u64) -> Outcome {
+    pub fn return_in(&mut self, list: &mut MarkedList, mark: u64) -> Outcome {
         let answer = self
             .comparison
             .marking_grown(list, Marking::ReturnTo(mark))?;

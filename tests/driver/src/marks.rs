@@ -2,6 +2,7 @@
 // answers and leaves by the words alone.
 use crate::call::{Answer, Call, Marking, Side};
 use crate::compare::shown;
+use crate::lists::{GuardList, take_on};
 use crate::native::{Graph, opened};
 use crate::original::{Original, retain_region};
 use crate::words::{ALIAS, LIMIT, UNTOUCHED, alias_word, nodes_of, start_of};
@@ -159,6 +160,10 @@ impl Side for Filled {
         mapping: &mut [u64],
     ) -> Option<Answer> {
         Some(retain_by_words(region, marks, keep, mapping))
+    }
+
+    fn guards(&mut self, region: &mut [u64], list: &GuardList) -> Option<Answer> {
+        Some(take_on(region, list))
     }
 
     fn takes(&self, _: &Call) -> bool {

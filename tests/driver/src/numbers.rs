@@ -193,7 +193,7 @@ impl Source {
     }
 
     // A region that is no graph: of another length, of any words, or with a word changed.
-    fn no_graph(&mut self) -> Vec<u64> {
+    pub fn no_graph(&mut self) -> Vec<u64> {
         loop {
             let mut region = self.other_region();
             match self.random.below(4) {

@@ -5,6 +5,9 @@ use crate::classes::{
     DAMAGED, EDGES, FULL, GROWN, GUARDED, LENGTH, OTHER, PASSING, Rounds, SWEPT, kind_of,
 };
 use crate::compare::{Comparison, Counts, NARROWED, TAKEN_BACK};
+use crate::list_edges::LISTS_EDGES;
+use crate::list_rounds::{LISTS_FULL, LISTS_GROWN, LISTS_MARKED, LISTS_NO_GRAPH, LISTS_OTHER};
+use crate::lists::{GUARDS, LIST_DONE, LIST_FACTS, LIST_FAULTS, LIST_KIND, LIST_REFUSED, Lists};
 use crate::mark_regions::{MARK_LENGTHS, MARK_WORDS};
 use crate::marked::{MARKED, MARKINGS, RETURNED};
 use crate::meter::{Kind, hits};
@@ -14,7 +17,7 @@ use crate::retains;
 use crate::sites::{Reach, sites};
 use std::collections::BTreeMap;
 
-const CLASSES: [(&str, &str); 18] = [
+const CLASSES: [(&str, &str); 24] = [
     (EDGES, "the edges of document 01"),
     (SWEPT, "one node's words through all their limits"),
     (GROWN, "grown from zeros"),
@@ -33,6 +36,12 @@ const CLASSES: [(&str, &str); 18] = [
     WITH_MARKS[0],
     WITH_MARKS[1],
     WITH_MARKS[2],
+    WITH_LISTS[0],
+    WITH_LISTS[1],
+    WITH_LISTS[2],
+    WITH_LISTS[3],
+    WITH_LISTS[4],
+    WITH_LISTS[5],
 ];
 
 // The classes of calls with any numbers.
@@ -50,6 +59,16 @@ const WITH_MARKS: [(&str, &str); 3] = [
     (MARKED, "marks: grown from zeros"),
     (MARK_WORDS, "marks: any words"),
     (MARK_LENGTHS, "marks: another length"),
+];
+
+// The classes with lists of guards.
+const WITH_LISTS: [(&str, &str); 6] = [
+    (LISTS_EDGES, "lists of guards: every length and place"),
+    (LISTS_GROWN, "lists of guards: grown from zeros"),
+    (LISTS_FULL, "lists of guards: grown until full"),
+    (LISTS_MARKED, "lists of guards: between marks"),
+    (LISTS_OTHER, "lists of guards: on other regions"),
+    (LISTS_NO_GRAPH, "lists of guards: on no graph"),
 ];
 
 // The answers that a whole run must have met, by class.
@@ -252,6 +271,16 @@ const MET_WITH_MARKS: [(&str, &[&str]); 3] = [
     (MARK_LENGTHS, &["is not marked", "refused 1"]),
 ];
 
+// The same for the classes with lists of guards, beside what their lists themselves must be answered.
+const MET_WITH_LISTS: [(&str, &[&str]); 6] = [
+    (LISTS_EDGES, &["refused 1", LIST_DONE[3]]),
+    (LISTS_GROWN, &["new node", "old node", "none", LIST_DONE[3]]),
+    (LISTS_FULL, &[LIST_DONE[3]]),
+    (LISTS_MARKED, &["mark", RETURNED[0], RETURNED[1], LIST_DONE[2]]),
+    (LISTS_OTHER, &[LIST_DONE[3]]),
+    (LISTS_NO_GRAPH, &["refused 1"]),
+];
+
 fn print_classes(counts: &BTreeMap<&'static str, Counts>) {
     println!("| class | regions | calls | answers |");
     println!("|---|---|---|---|");
@@ -271,13 +300,17 @@ fn print_classes(counts: &BTreeMap<&'static str, Counts>) {
 }
 
 fn print_kinds(counts: &BTreeMap<&'static str, Counts>) {
-    println!("| class | {} |", KINDS.join(" | "));
-    println!("|{}", "---|".repeat(KINDS.len() + 1));
+    let columns: Vec<&str> = KINDS.into_iter().chain([LIST_KIND]).collect();
+    println!("| class | {} |", columns.join(" | "));
+    println!("|{}", "---|".repeat(columns.len() + 1));
     for (class, name) in CLASSES {
         let Some(counts) = counts.get(class) else {
             continue;
         };
-        let calls = KINDS.map(|kind| counts.kinds.get(kind).copied().unwrap_or(0).to_string());
+        let calls = columns.iter().map(|kind| counts.kinds.get(kind));
+        let calls: Vec<String> = calls
+            .map(|calls| calls.copied().unwrap_or(0).to_string())
+            .collect();
         println!("| {name} | {} |", calls.join(" | "));
     }
     println!();
@@ -406,12 +439,32 @@ fn print_marks(comparison: &Comparison) {
     );
 }
 
+fn print_lists(lists: &Lists) {
+    println!("| guards in a random list | lists | not refused |");
+    println!("|---|---|---|");
+    for (length, [all, done]) in &lists.lengths {
+        let more = if *length > GUARDS + 1 { " or more" } else { "" };
+        println!("| {length}{more} | {all} | {done} |");
+    }
+    println!();
+    println!("| of the random lists | lists |");
+    println!("|---|---|");
+    for fact in LIST_FACTS {
+        println!(
+            "| {fact} | {} |",
+            lists.facts.get(fact).copied().unwrap_or(0)
+        );
+    }
+    println!();
+}
+
 pub fn print(rounds: &Rounds) {
     let counts = &rounds.comparison.counts;
     print_classes(counts);
     print_kinds(counts);
     print_retains(&rounds.comparison.retains);
     print_damages(&rounds.damages);
+    print_lists(&rounds.comparison.lists);
     print_sites();
     let calls: u64 = counts.values().map(|counts| counts.calls).sum();
     let kinds = rounds.comparison.retains.values();
@@ -420,6 +473,10 @@ pub fn print(rounds: &Rounds) {
     print_guards(counts, Kind::Other, "other regions");
     println!("With any numbers: {} of the calls", of_numbered(counts));
     print_marks(&rounds.comparison);
+    let Lists { lists, singles, .. } = rounds.comparison.lists;
+    println!(
+        "Lists of guards: {lists} lists, and {singles} single guards of the library beside them"
+    );
     println!("{calls} calls and {retains} retains compared, no difference");
 }
 
@@ -461,6 +518,34 @@ fn missing_marks(comparison: &Comparison) -> Vec<String> {
     missing
 }
 
+// What the lists of guards must have met and have not.
+pub fn missing_lists(comparison: &Comparison) -> Vec<String> {
+    let mut missing = vec![];
+    for (class, names) in MET_WITH_LISTS {
+        missing.extend(missing_of(comparison, class, names, &[LIST_KIND]));
+    }
+    // Between marks a graph is hardly ever full.
+    for class in [LISTS_EDGES, LISTS_GROWN, LISTS_FULL, LISTS_OTHER] {
+        let names = [
+            &LIST_DONE[..3],
+            &LIST_FAULTS,
+            &LIST_REFUSED[0],
+            &LIST_REFUSED[1],
+        ];
+        missing.extend(missing_of(comparison, class, &names.concat(), &[]));
+    }
+    for class in [LISTS_EDGES, LISTS_FULL, LISTS_OTHER] {
+        missing.extend(missing_of(comparison, class, &LIST_REFUSED[2], &[]));
+    }
+    let Lists { facts, lengths, .. } = &comparison.lists;
+    let facts = LIST_FACTS.iter().filter(|fact| !facts.contains_key(*fact));
+    missing.extend(facts.map(|fact| format!("lists: {fact}")));
+    let is_done = |length: &usize| lengths.get(length).is_some_and(|[_, done]| *done > 0);
+    let lengths = (0..=GUARDS).filter(|length| !is_done(length));
+    missing.extend(lengths.map(|length| format!("lists of {length} guards, not refused")));
+    missing
+}
+
 // What a class must have met and has not.
 fn missing_of(comparison: &Comparison, class: &str, names: &[&str], kinds: &[&str]) -> Vec<String> {
     let none = Counts::default();
@@ -488,6 +573,7 @@ pub fn missing(rounds: &Rounds) -> Vec<String> {
     }
     if rounds.source.has_numbers {
         missing.extend(missing_marks(comparison));
+        missing.extend(missing_lists(comparison));
     }
     missing.extend(missing_retains(comparison));
     missing.extend(wrong_sites());

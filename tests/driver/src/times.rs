@@ -1,7 +1,8 @@
 // How long a call takes on each side, by the number of nodes: `effect`, the thinnest over `insert`, each builder, a
-// retain and a guard; marks are in mark_times.rs. The original is timed as it is, not the metered one. `one` makes the
-// calls of one builder alone, for a count of their instructions.
+// retain and a guard; marks are in mark_times.rs, lists of guards in list_times.rs. The original is timed as it is, not
+// the metered one. `one` makes the calls of one builder alone, for a count of their instructions.
 use crate::call::{Call, Ready, Side};
+use crate::list_times;
 use crate::mark_times;
 use crate::marks::MARKS;
 use crate::native;
@@ -369,7 +370,7 @@ fn put(region: &mut [u64], calls: &[Ready]) {
 }
 
 // The calls with their words at hand.
-fn ready(side: &dyn Side, works: &[Work]) -> Vec<Ready> {
+pub fn ready(side: &dyn Side, works: &[Work]) -> Vec<Ready> {
     works
         .iter()
         .map(|work| {
@@ -380,7 +381,7 @@ fn ready(side: &dyn Side, works: &[Work]) -> Vec<Ready> {
 }
 
 // On a graph, the calls one after another.
-fn old_times(tiers: &mut Tiers, before: &[Work], works: &[Work]) -> [f64; 3] {
+pub fn old_times(tiers: &mut Tiers, before: &[Work], works: &[Work]) -> [f64; 3] {
     let (mut graph, mut region) = after(before);
     let original = smallest(|| timed(works.len(), || work(&mut graph, works)));
     let [twin, asking] = [&tiers.twin, &tiers.asking].map(|side| {
@@ -391,7 +392,7 @@ fn old_times(tiers: &mut Tiers, before: &[Work], works: &[Work]) -> [f64; 3] {
 }
 
 // On copies of a graph, the calls one after another.
-fn new_times(tiers: &mut Tiers, before: &[Work], works: &[Work]) -> [f64; 3] {
+pub fn new_times(tiers: &mut Tiers, before: &[Work], works: &[Work]) -> [f64; 3] {
     let (graph, region) = after(before);
     let all = COPIES * works.len();
     let original = smallest(|| {
@@ -419,12 +420,12 @@ fn new_times(tiers: &mut Tiers, before: &[Work], works: &[Work]) -> [f64; 3] {
 
 // As `work` and `put`, and called in one place: what is counted are the calls made there.
 #[inline(never)]
-fn counted_work(graph: &mut Graph, works: &[Work]) {
+pub fn counted_work(graph: &mut Graph, works: &[Work]) {
     work(graph, works);
 }
 
 #[inline(never)]
-fn counted_put(region: &mut [u64], calls: &[Ready]) {
+pub fn counted_put(region: &mut [u64], calls: &[Ready]) {
     put(region, calls);
 }
 
@@ -528,9 +529,16 @@ fn three(name: &str, nodes: usize, is_old: bool) -> Option<(Vec<Work>, Vec<Work>
 
 // Three calls on one side, on an old or a new node: a count of the instructions of `counted_work` or `counted_put` is theirs.
 pub fn one(twin: &mut dyn Side, name: &str, nodes: usize, is_old: bool, is_original: bool) -> bool {
-    if name == "retain" {
-        three_retains(twin, nodes, is_original);
-        return true;
+    match name {
+        "retain" => {
+            three_retains(twin, nodes, is_original);
+            return true;
+        }
+        "eight guards" | "list of eight guards" => {
+            list_times::one(twin, name != "eight guards", nodes, is_old, is_original);
+            return true;
+        }
+        _ => {}
     }
     let Some((before, works)) = three(name, nodes, is_old) else {
         return false;
@@ -722,7 +730,7 @@ pub fn print(asking: &mut dyn Side, twin: &mut dyn Side) {
         "Nanoseconds for a call. `asking` asks question 1 first, which alone takes `question 1`;"
     );
     println!(
-        "`in graph` is its twin that does not ask. First `effect`, then each builder, retain, marks and guards.\n"
+        "`in graph` is its twin that does not ask. First `effect`, then each builder, retain, marks, guards and lists of them.\n"
     );
     print_leaves(&mut tiers);
     println!();
@@ -733,6 +741,8 @@ pub fn print(asking: &mut dyn Side, twin: &mut dyn Side) {
     mark_times::print(&mut tiers);
     println!();
     print_guards(&mut tiers);
+    println!();
+    list_times::print(&mut tiers);
     println!();
     print_slow(&mut tiers);
     #[cfg(library)]
