@@ -2,8 +2,8 @@
 // and what it shows of its graph is written back as words. Other regions, and what the binding's types can't say, go to
 // the exported functions. The marks that it holds are seen by returns to them.
 use crate::call::{Answer, Call, ListFunction, Marking, Ready, Side, binary_of, unary_of};
+use crate::guard_list::GuardList;
 use crate::library::InGraph;
-use crate::lists::GuardList;
 use crate::marks::mark_start;
 use crate::native;
 use crate::words::{ALIAS, REGION, WORDS, alias_word, node_words, start_of};

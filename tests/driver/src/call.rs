@@ -1,5 +1,5 @@
 // The calls and their answers.
-use crate::lists::GuardList;
+use crate::guard_list::GuardList;
 use crate::native::{Binary, Range, ScalarType, Unary};
 use crate::operators::{self, BINARY_CODE, UNARY_CODE};
 use crate::words::WORDS;

@@ -1,7 +1,8 @@
 // Puts a call to both sides, compares the answers and every word, and counts. A difference is made small and told.
 use crate::call::{Answer, Call, Side};
 use crate::classes;
-use crate::lists::{GuardList, Lists, take_on};
+use crate::guard_list::GuardList;
+use crate::lists::{Lists, take_on};
 use crate::marks::no_marks;
 use crate::meter;
 use crate::native::Graph;

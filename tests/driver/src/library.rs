@@ -1,6 +1,6 @@
 // The proved library's side, through the functions that it exports.
 use crate::call::{Answer, Call, ListFunction, Marking, Ready, Side};
-use crate::lists::GuardList;
+use crate::guard_list::GuardList;
 use crate::words::{UNTOUCHED, WORDS, halves, joined};
 
 // The functions that have a twin for a caller that knows the region to be a graph.

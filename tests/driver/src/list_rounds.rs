@@ -3,8 +3,9 @@
 use crate::call::{Answer, Call};
 use crate::classes::{List, Outcome, Rounds};
 use crate::generate::Source;
+use crate::guard_list::{GUARDS, GuardList};
 use crate::guards::{is_comparison, is_not};
-use crate::lists::{GUARDS, GuardList, take};
+use crate::lists::take;
 use crate::marked::MarkedList;
 use crate::native::{Graph, Scalar, ScalarType};
 use crate::words::{graph_of, readable};

@@ -12,6 +12,7 @@ mod edges;
 mod examples;
 mod generate;
 mod guard_examples;
+mod guard_list;
 mod guard_regions;
 mod guards;
 #[cfg(library)]

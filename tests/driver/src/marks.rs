@@ -2,7 +2,8 @@
 // answers and leaves by the words alone.
 use crate::call::{Answer, Call, Marking, Side};
 use crate::compare::shown;
-use crate::lists::{GuardList, take_on};
+use crate::guard_list::GuardList;
+use crate::lists::take_on;
 use crate::native::{Graph, opened};
 use crate::original::{Original, retain_region};
 use crate::words::{ALIAS, LIMIT, UNTOUCHED, alias_word, nodes_of, start_of};

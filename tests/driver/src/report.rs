@@ -5,9 +5,10 @@ use crate::classes::{
     DAMAGED, EDGES, FULL, GROWN, GUARDED, LENGTH, OTHER, PASSING, Rounds, SWEPT, kind_of,
 };
 use crate::compare::{Comparison, Counts, NARROWED, TAKEN_BACK};
+use crate::guard_list::GUARDS;
 use crate::list_edges::LISTS_EDGES;
 use crate::list_rounds::{LISTS_FULL, LISTS_GROWN, LISTS_MARKED, LISTS_NO_GRAPH, LISTS_OTHER};
-use crate::lists::{GUARDS, LIST_DONE, LIST_FACTS, LIST_FAULTS, LIST_KIND, LIST_REFUSED, Lists};
+use crate::lists::{LIST_DONE, LIST_FACTS, LIST_FAULTS, LIST_KIND, LIST_REFUSED, Lists};
 use crate::mark_regions::{MARK_LENGTHS, MARK_WORDS};
 use crate::marked::{MARKED, MARKINGS, RETURNED};
 use crate::meter::{Kind, hits};
@@ -276,7 +277,10 @@ const MET_WITH_LISTS: [(&str, &[&str]); 6] = [
     (LISTS_EDGES, &["refused 1", LIST_DONE[3]]),
     (LISTS_GROWN, &["new node", "old node", "none", LIST_DONE[3]]),
     (LISTS_FULL, &[LIST_DONE[3]]),
-    (LISTS_MARKED, &["mark", RETURNED[0], RETURNED[1], LIST_DONE[2]]),
+    (
+        LISTS_MARKED,
+        &["mark", RETURNED[0], RETURNED[1], LIST_DONE[2]],
+    ),
     (LISTS_OTHER, &[LIST_DONE[3]]),
     (LISTS_NO_GRAPH, &["refused 1"]),
 ];

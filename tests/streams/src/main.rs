@@ -39,6 +39,9 @@ mod chains;
 #[path = "../../driver/src/generate.rs"]
 mod generate;
 #[allow(dead_code)]
+#[path = "../../driver/src/guard_list.rs"]
+mod guard_list;
+#[allow(dead_code)]
 #[path = "../../driver/src/guards.rs"]
 mod guards;
 #[allow(dead_code)]
