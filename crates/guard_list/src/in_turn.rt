@@ -10,6 +10,7 @@ ghost use Rattle.native.specs.Call.{done, refused, called};
 ghost use Rattle.native.specs.Perform.{asked, finished, request_in_graph};
 ghost use Rattle.guard_list.specs.GuardList.{guards_of, in_turn, done_of};
 
+use crate::Guards;
 use answer::Refusal;
 use assume::guard_assumed::refine_both;
 use assume::narrowing::narrowing;
@@ -51,28 +52,27 @@ fn assume_next(g: &mut Region, condition: NodeId, expected: bool) -> Result<(), 
 }
 
 // The first refusal ends it, and what was done before it stays.
-pub(crate) fn assume_in_turn(
-    g: &mut Region,
-    conditions: &[u64],
-    answers: &[u64],
-) -> Result<(), Refusal>
-    requires { (is_graph g.old ≡ true) × (length answers.now ≡ length conditions.now) }
-    ensures answer { finished g.old (called (done_of result) g.new) ≡ finished g.old (in_turn g.old (guards_of conditions.now answers.now)) }
+pub(crate) fn assume_in_turn(g: &mut Region, guards: Guards) -> Result<(), Refusal>
+    requires { is_graph g.old ≡ true }
+    ensures answer { finished g.old (called (done_of result) g.new) ≡ finished g.old (in_turn g.old (guards_of guards.entry.conditions.now guards.entry.answers.now)) }
     ensures keys { Same (count_of g.old) g.old g.new }
 {
-    for (condition, answer) in conditions.iter().zip(answers) {
+    for (condition, answer) in guards.conditions.iter().zip(guards.answers) {
         assume_next(g, NodeId(*condition), *answer == 1)?;
     }
     Ok(())
 }
 
 // How many guards narrow nothing before one narrows a node. A refusal among them is the list's.
-pub(crate) fn idle_guards(g: &Region, conditions: &[u64], answers: &[u64]) -> Result<usize, Refusal>
-    requires { length answers.now ≡ length conditions.now }
+pub(crate) fn idle_guards(g: &Region, guards: Guards) -> Result<usize, Refusal>
     ensures { MatchResult result
-        (λ n. (n ≤ length conditions.now) × (in_turn g.now (guards_of conditions.now answers.now) ≡ in_turn g.now (guards_of (drop n conditions.now) (drop n answers.now))))
-        (λ r. in_turn g.now (guards_of conditions.now answers.now) ≡ called (refused r) g.now) }
+        (λ n. (n ≤ length guards.entry.conditions.now) × (in_turn g.now (guards_of guards.entry.conditions.now guards.entry.answers.now) ≡ in_turn g.now (guards_of (drop n guards.entry.conditions.now) (drop n guards.entry.answers.now))))
+        (λ r. in_turn g.now (guards_of guards.entry.conditions.now guards.entry.answers.now) ≡ called (refused r) g.now) }
 {
+    let Guards {
+        conditions,
+        answers,
+    } = guards;
     for n in 0..conditions.len() {
         if narrowed_by(g, NodeId(conditions[n]), answers[n] == 1)?.is_some() {
             return Ok(n);

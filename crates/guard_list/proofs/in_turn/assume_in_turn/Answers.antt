@@ -14,8 +14,8 @@ use Rattle.guard_list.proofs.in_turn.assume_in_turn.Goals as goal
 
 pub loop-condition-preserved : goal.loop-condition-preserved
 loop-condition-preserved c =
-    let cs = c.args.conditions.now in
-    let es = c.args.answers.now in
+    let cs = c.args.guards.conditions.now in
+    let es = c.args.guards.answers.now in
     let i = c.loop-condition.invariant in
     let n = length c.loop-condition.yielded in
     let g = c.loop-condition.g in
@@ -26,7 +26,7 @@ loop-condition-preserved c =
     let e = c.in_ok-assume_next.ensures.answer in
     let k = next_graph g h x (eqb y 1) i.1 i.2 e in
     let m : suc n ≡ length (c.loop-condition.yielded ++ ((c.in-Some.condition, c.in-Some.answer) ∷ [])) = omega (arith, length-append c.loop-condition.yielded ((c.in-Some.condition, c.in-Some.answer) ∷ [])) in (
-      i.0 ∙ turn_on g cs es n c.requires.1 t.0 x y (t.2 0) (t.3 0) h e ∙ ap (λ (j : ℕ). in_turn h (guards_of (drop j cs) (drop j es))) m,
+      i.0 ∙ turn_on g cs es n c.args.guards.even t.0 x y (t.2 0) (t.3 0) h e ∙ ap (λ (j : ℕ). in_turn h (guards_of (drop j cs) (drop j es))) m,
       k.0,
       k.1,
       same_then i.3 i.3.more c.in_ok-assume_next.ensures.keys,

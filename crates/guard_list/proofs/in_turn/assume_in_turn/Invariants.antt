@@ -9,5 +9,5 @@ use Rattle.guard_list.proofs.in_turn.assume_in_turn.Given as goal
 
 abbrev pub invariant-loop-condition : goal.invariant-loop-condition
 invariant-loop-condition l =
-    (in_turn l.initial.g (guards_of l.conditions l.answers) ≡ in_turn l.g (guards_of (drop (length l.yielded) l.conditions) (drop (length l.yielded) l.answers)))
+    (in_turn l.initial.g (guards_of l.guards.conditions.now l.guards.answers.now) ≡ in_turn l.g (guards_of (drop (length l.yielded) l.guards.conditions.now) (drop (length l.yielded) l.guards.answers.now)))
     × (is_graph l.g ≡ true) × Words l.g × Same (count_of l.initial.g) l.initial.g l.g
