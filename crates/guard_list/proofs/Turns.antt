@@ -1,8 +1,8 @@
 -- Guards one after the other: a guard at its turn, and what is left of a list. Assumes nothing.
 use mathlib.Core.Path.{◌≡◌, refl, sym, ap, subst, ◌∙◌}
 use mathlib.Core.Bool.{Bool, true, false, cond, false≢true}
-use mathlib.Core.List.{List, [], ◌∷◌}
-use Prim.Native.Nat.{ℕ, zero, suc, ◌<◌}
+use mathlib.Core.List.{List}
+use Prim.Native.Nat.{ℕ, suc, ◌<◌}
 use native.Mathlib.Omega.{arith}
 use lib.Dec.{eqb}
 use lib.ListN.{length, get_or, drop}
@@ -62,13 +62,6 @@ module _ (g : List ℕ) (n : ℕ) (e : Bool) where
   room_is outcomes.Narrowed h = refl
 
 -- ---- what is left of a list
-
--- what is left of a list are the guards that are left
-guards_drop : (n : ℕ) (cs es : List ℕ) → length es ≡ length cs → drop n (guards_of cs es) ≡ guards_of (drop n cs) (drop n es)
-guards_drop zero cs es e = refl
-guards_drop (suc n) [] es e = refl
-guards_drop (suc n) (c ∷ cs) [] e = absurd (omega (arith, e))
-guards_drop (suc n) (c ∷ cs) (x ∷ es) e = guards_drop n cs es (omega (arith, e))
 
 -- cs are the conditions, es the answers; the guards from n on are left, on the region h
 module _ (h cs es : List ℕ) (n : ℕ) (even : length es ≡ length cs) where

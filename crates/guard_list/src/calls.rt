@@ -1,6 +1,6 @@
 // The call assume_guards. `.._in_graph` is for a caller that knows the region to be a graph: on another region nothing is promised. The fact is a clause, as in
 // native/src/perform.rt.
-ghost use Rattle.std.specs.Prelude.{true, ◌≡◌, ◌≤◌, length};
+ghost use Rattle.std.specs.Prelude.{true, ◌≡◌, ◌≤◌};
 ghost use Rattle.graph.specs.Layout.{LIMIT, count_of};
 ghost use Rattle.graph.specs.WellFormed.{is_graph};
 ghost use Rattle.native.specs.Call.{answer_of, called};

@@ -67,7 +67,7 @@ use Rattle.mark.proofs.Requests.{request_same}
 use Rattle.request.specs.Typing.{is_number, binary_typed}
 use Rattle.meaning.specs.Value.{Env, size, integer_of, of_type, valued, Operand, value, operand}
 use Rattle.meaning.proofs.Worlds.{World, operation_means}
-use Rattle.meaning.specs.Book.{Action, request, retain, mark, return_to, guards, patterned, request_means, Line, Condition, input_is, effect_is, holds, first, handed, request_conditions, keeps, renumbered, struck, retains, Book, blank, drops_all, State, History, called, kept, acted, singles, singly, takes, listed, acted_guards, refused_or, answered_singly, Takeable, retained_by, marked_by, returned_by, act, play, Unmarked, AllMet, Right, AllRight}
+use Rattle.meaning.specs.Book.{Action, request, retain, mark, return_to, guards, patterned, request_means, Line, Condition, input_is, effect_is, holds, first, handed, request_conditions, keeps, renumbered, struck, retains, Book, blank, drops_all, State, History, called, kept, acted, singles, singly, listed, acted_guards, refused_or, answered_singly, Takeable, retained_by, marked_by, returned_by, act, play, Unmarked, AllMet, Right, AllRight}
 use Rattle.meaning.proofs.Values.{typed_is}
 use Rattle.graph.proofs.Appended.{empty_graph}
 use Rattle.meaning.proofs.Invariant.{shiftable, stored_typed, Ends, Within, Inv, Extends, ext_here, ext_value, Storable, Kept, Answered, insert_good}

@@ -1,5 +1,5 @@
 // A request performed: the questions in their order, the work, and what a refusal takes back.
-ghost use Rattle.std.specs.Prelude.{true, ◌≡◌, ◌≤◌, length};
+ghost use Rattle.std.specs.Prelude.{true, ◌≡◌, ◌≤◌};
 ghost use Rattle.graph.specs.Insert.{built_of};
 ghost use Rattle.graph.specs.Layout.{LIMIT, count_of};
 ghost use Rattle.graph.specs.WellFormed.{is_graph};
