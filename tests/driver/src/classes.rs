@@ -85,6 +85,22 @@ impl Rounds {
         self.comparison.call_grown(region, graph, call)
     }
 
+    // The calls of a plan that leads to guards, each made in this way; the guards themselves are kept in mind and not assumed.
+    pub fn follow_plan(
+        &mut self,
+        mut made: impl FnMut(&mut Self, &Call) -> Result<Answer, String>,
+    ) -> Outcome {
+        while let Some(call) = self.source.plan.next() {
+            self.source.remember(&call);
+            let answer = match call {
+                Call::AssumeGuard { .. } => Answer::Done,
+                _ => made(self, &call)?,
+            };
+            self.source.hear(answer);
+        }
+        Ok(())
+    }
+
     fn grow(&mut self, list: &mut List, calls: usize, spread: Spread) -> Outcome {
         for _ in 0..calls {
             let call = self.pick(&list.graph.scalars, spread);

@@ -1,6 +1,5 @@
 // Random lists of guards, on graphs that calls have grown, on full ones, on regions that no calls could have grown, between marks,
 // and on regions that are no graph.
-use crate::call::{Answer, Call};
 use crate::classes::{List, Outcome, Rounds};
 use crate::generate::Source;
 use crate::guard_list::{GUARDS, GuardList};
@@ -142,15 +141,7 @@ impl Rounds {
     // What leads to guards, which are kept in mind and not assumed.
     fn prepare(&mut self, list: &mut List) -> Outcome {
         self.source.begin_guards(&list.graph.scalars);
-        while let Some(call) = self.source.plan.next() {
-            self.source.remember(&call);
-            let answer = match call {
-                Call::AssumeGuard { .. } => Answer::Done,
-                _ => self.call_on(list, &call)?,
-            };
-            self.source.hear(answer);
-        }
-        Ok(())
+        self.follow_plan(|rounds, call| rounds.call_on(list, call))
     }
 
     // A list in a list of calls.

@@ -349,15 +349,7 @@ impl Rounds {
     // What leads to guards, which are kept in mind and not yet assumed.
     fn prepare_guards(&mut self, list: &mut MarkedList) -> Outcome {
         self.source.begin_guards(&list.list.graph.scalars);
-        while let Some(call) = self.source.plan.next() {
-            self.source.remember(&call);
-            let answer = match call {
-                Call::AssumeGuard { .. } => Answer::Done,
-                _ => self.call_in(list, &call)?,
-            };
-            self.source.hear(answer);
-        }
-        Ok(())
+        self.follow_plan(|rounds, call| rounds.call_in(list, call))
     }
 
     // Prepares guards, and adds leaves until there is room for a few nodes alone: a guard is refused 7, perhaps after an
