@@ -208,6 +208,12 @@ on_id-stop (Err unbuilt.None) u g k h = refl
 on_id-stop (Err unbuilt.Room) u g k h = refl
 on_id-stop (Err unbuilt.Units) u g k h = refl
 
+pub on_nothing-stop : (b : Result NodeId Unbuilt) (u : ℕ) (g : List ℕ) (k : ℕ → List ℕ → Out) → (b ≡ Err unbuilt.None → ⊥) → on_nothing (built_of b) u g k ≡ out (built_of b) u g
+on_nothing-stop (Ok x) u g k h = refl
+on_nothing-stop (Err unbuilt.None) u g k h = absurd (h refl)
+on_nothing-stop (Err unbuilt.Room) u g k h = refl
+on_nothing-stop (Err unbuilt.Units) u g k h = refl
+
 on_out_twice : (o : Out) (k : ℕ → ℕ → List ℕ → Out) → on_out (on_out o (λ n v h. out (id n) v h)) k ≡ on_out o k
 on_out_twice o k = ap (λ (q : Out). on_out q k) (on_out-tail o)
 

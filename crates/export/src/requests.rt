@@ -14,7 +14,7 @@ use request::Request;
 use request::codes::{binary_by_code, clamped_width, truth_by_number, type_by_code, unary_by_code};
 use word::Word;
 
-// A leaf whose type's code names nothing.
+// A leaf whose type's code names nothing. Where there is a type, a match makes the request in its place; `map_or` would make this one first, and copy.
 fn unnamed_leaf(width: u64) -> Request
     ensures { request_of result ≡ unnamed (clamped width ∷ []) [] }
 {
@@ -25,7 +25,10 @@ fn unnamed_leaf(width: u64) -> Request
 pub(crate) fn constant_request(code: u64, width: u64, value: Word) -> Request
     ensures { request_of result ≡ constant_by_code code width (val value) }
 {
-    type_by_code(code, width).map_or(unnamed_leaf(width), |ty| Request::Constant(value, ty))
+    match type_by_code(code, width) {
+        Some(ty) => Request::Constant(value, ty),
+        None => unnamed_leaf(width),
+    }
 }
 
 #[tactic(auto, unfolding(crate::specs::Numbers::input_by_code))]
@@ -33,7 +36,10 @@ pub(crate) fn input_request(number: u64, code: u64, width: u64, range: Option<Ra
     ensures { request_of result ≡ input_by_code number code width (interval_of range) }
 {
     let id = InputId(number);
-    type_by_code(code, width).map_or(unnamed_leaf(width), |ty| Request::Input(id, range, ty))
+    match type_by_code(code, width) {
+        Some(ty) => Request::Input(id, range, ty),
+        None => unnamed_leaf(width),
+    }
 }
 
 #[tactic(auto, unfolding(crate::specs::Numbers::effect_by_code))]
@@ -41,7 +47,10 @@ pub(crate) fn effect_request(number: u64, code: u64, width: u64) -> Request
     ensures { request_of result ≡ effect_by_code number code width }
 {
     let id = EffectId(number);
-    type_by_code(code, width).map_or(unnamed_leaf(width), |ty| Request::Effect(id, ty))
+    match type_by_code(code, width) {
+        Some(ty) => Request::Effect(id, ty),
+        None => unnamed_leaf(width),
+    }
 }
 
 #[tactic(auto, unfolding(crate::specs::Numbers::unary_by_codes))]

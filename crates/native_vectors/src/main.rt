@@ -14,16 +14,21 @@ use lines::LINE;
 use region::WORDS;
 use vector_lines::replay;
 
+// Each line is answered before the next one is read: who writes it may wait for its answer.
 fn main(rt: HostRuntime) {
     let mut words = [0u64; WORDS];
-    let mut lines = [0u8; 64 * LINE];
-    let mut answers = [0u8; 64 * ROOM];
+    let mut line = [0u8; LINE];
+    let mut answer = [0u8; ROOM];
+
+    // A line whose answer found no room would end the replay as a malformed one does.
+    let has_room = ROOM <= answer.len();
+    prove!(has_room);
     let _ = replay(
         &mut rt.stdin(),
         &mut rt.stdout(),
         LINE,
-        &mut lines,
-        &mut answers,
+        &mut line,
+        &mut answer,
         |line, out| put_answer_to(line, &mut words, out),
     );
 }

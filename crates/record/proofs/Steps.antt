@@ -18,7 +18,7 @@ use Rattle.native.specs.Perform.{request_in_graph, request_call}
 use Rattle.native.specs.Retain.{Outcome, Retention, retention, retain_in_graph, retain_call}
 use Rattle.record.specs.Record.{Asked, request, retain, asked}
 use Rattle.record.specs.Line.{BAD, REFUSED, numbered, answer_line, retain_line, Puts}
-use Rattle.record.specs.Perform.{goes_on, ends, says, ends_bad, answered, kept_line, done_by, effect_call, effect_in_graph, left, Writes}
+use Rattle.record.specs.Perform.{goes_on, ends, says, ends_bad, answered, kept_line, done_by, effect_call, effect_in_graph, record_call, record_in_graph, left, Writes}
 
 -- ---- lines
 
@@ -55,6 +55,10 @@ done_in_graph g m (Some (retain bs)) e = rw e
 pub effect_in_graph_lem : (g m bs : List ℕ) → is_graph g ≡ true → effect_in_graph g m bs ≡ effect_call g m bs
 unfolding effect_in_graph effect_call
 effect_in_graph_lem g m bs e = sym (done_in_graph g m (asked bs) e)
+
+pub record_in_graph_lem : (g m bs out : List ℕ) → is_graph g ≡ true → record_in_graph g m bs out ≡ record_call g m bs out
+unfolding record_in_graph record_call
+record_in_graph_lem g m bs out e = rw (effect_in_graph_lem g m bs e)
 
 -- on another region whatever is asked for is refused
 done_refused : (g m : List ℕ) (o : Option Asked) → is_graph g ≡ false → is_some o ≡ true

@@ -2,7 +2,7 @@
 #![tactic(auto)]
 
 ghost use Rattle.std.specs.Prelude.{◌≡◌, ◌≤◌, length};
-ghost use Rattle.text.specs.Text.{placed, fitting, placed_if, decimal};
+ghost use Rattle.text.specs.Text.{placed, fitting, placed_if, end_of, placed_in, decimal};
 
 // Puts text at the start of out, and answers how many bytes it has.
 #[tactic(auto, unfolding(crate::specs::Text::placed))]
@@ -25,6 +25,19 @@ pub fn put_text(text: &[u8], out: &mut [u8]) -> usize
         put_text_in_room(text, out)
     } else {
         0
+    }
+}
+
+// The same from `at` on, a place that may lie past the slice's end: where there is room for it, and else nothing. Answers where it ends.
+#[tactic(auto, unfolding(crate::specs::Text::placed))]
+pub fn put_text_at(text: &[u8], out: &mut [u8], at: usize) -> usize
+    ensures value { result ≡ end_of out.old at (length text.now) }
+    ensures out_after { out.new ≡ placed_in out.old at (length text.now) text.now }
+{
+    if at <= out.len() {
+        at + put_text(text, &mut out[at..])
+    } else {
+        at
     }
 }
 
@@ -65,5 +78,18 @@ pub fn put_decimal(n: u64, out: &mut [u8]) -> usize
         put_decimal_in_room(n, out)
     } else {
         0
+    }
+}
+
+// The same from `at` on, a place that may lie past the slice's end: where there is room for them, and else nothing. Answers where they end.
+#[tactic(auto, unfolding(crate::specs::Text::placed))]
+pub fn put_decimal_at(n: u64, out: &mut [u8], at: usize) -> usize
+    ensures value { result ≡ end_of out.old at (length (decimal n)) }
+    ensures out_after { out.new ≡ placed_in out.old at (length (decimal n)) (decimal n) }
+{
+    if at <= out.len() {
+        at + put_decimal(n, &mut out[at..])
+    } else {
+        at
     }
 }

@@ -5,7 +5,7 @@ ghost use Rattle.std.specs.Io.KnownBytes.{Consumes, IsAtEnd};
 ghost use Rattle.std.specs.Prelude.{[], ◌∷◌, ◌++◌, ◌≡◌, ◌<◌, ◌≤◌, IfSome, IsFalse, IsTrue, OnOk, eqb, leb, ltb, length, take};
 ghost use Rattle.word.specs.Value.{val, number_of};
 ghost use Rattle.word.specs.Option.{only, provided};
-ghost use Rattle.text.specs.Text.{placed, fitting, placed_if};
+ghost use Rattle.text.specs.Text.{placed, fitting, placed_if, end_of, placed_in};
 ghost use Rattle.vector_lines.specs.Replay.{ReplaysWhole, ReplaysSome, Replays};
 ghost use Rattle.vector_lines.specs.Text.{digit_value, spelled, hex_digits};
 
@@ -82,6 +82,19 @@ pub fn put_word(w: Word, out: &mut [u8]) -> usize
         put_word_in_room(w, out)
     } else {
         0
+    }
+}
+
+// The same from `at` on, a place that may lie past the slice's end: where there is room for it, and else nothing. Answers where it ends.
+#[tactic(auto, unfolding(text::specs::Text::placed))]
+pub fn put_word_at(w: Word, out: &mut [u8], at: usize) -> usize
+    ensures value { result ≡ end_of out.old at 32 }
+    ensures out_after { out.new ≡ placed_in out.old at 32 (hex_digits 32 (val w)) }
+{
+    if at <= out.len() {
+        at + put_word(w, &mut out[at..])
+    } else {
+        at
     }
 }
 

@@ -90,8 +90,8 @@ impl Ord for Signed {
 
     ghost matches_eq = { Prim.search (comparing, rules) };
 
-    fn cmp(&self, other: &Signed) -> Ordering {
-        self.halves().cmp(&other.halves())
+    fn cmp(&self, rhs: &Signed) -> Ordering {
+        self.halves().cmp(&rhs.halves())
     }
 }
 

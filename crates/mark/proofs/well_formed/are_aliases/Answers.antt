@@ -1,15 +1,12 @@
--- `are_aliases` meets its contract: `all` tests the numbers below the count.
-use Rattle.std.proofs.Common.{refl, ◌∙◌, arith, rules, tests}
-use Rattle.std.proofs.lemmas.Iterator.{YieldsList-from_range}
-use Rattle.std.proofs.lemmas.Iterator.Search.{all_from_yields_List}
+-- `are_aliases` meets its contract: an alias word that fails makes the test of all fail.
+use mathlib.Core.Path.{sym, ◌∙◌}
 use lib.ListN.{length, get_or}
 use Rattle.graph.specs.WellFormed.{is_alias}
-use Rattle.graph.proofs.Tests.{passes}
+use Rattle.graph.proofs.Tests.{pass_off}
 use Rattle.mark.proofs.well_formed.are_aliases.Goals as goal
 
-pub returns : goal.returns
-returns c =
+pub returns-then-not-is_alias : goal.returns-then-not-is_alias
+returns-then-not-is_alias c =
     let words = c.args.words.now in
     let nodes = length words in
-    all_from_yields_List (λ i. is_alias i nodes (get_or words i 0)) _ _ _ c.all.ensures.ran (YieldsList-from_range 0 nodes nodes refl (omega arith)) (λ x b q k. search (rules, tests))
-    ∙ passes (λ i. is_alias i nodes (get_or words i 0)) nodes
+    sym (pass_off (λ i. is_alias i nodes (get_or words i 0)) c.loop-n.n (sym c.is_alias.ensures ∙ c.if-not-is_alias.true) nodes c.loop-n-test.true)

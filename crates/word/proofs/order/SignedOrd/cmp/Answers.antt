@@ -7,7 +7,7 @@ use Rattle.word.proofs.order.SignedOrd.cmp.Goals as goal
 pub returns : goal.returns
 returns c =
     let a = c.args.self.now in
-    let b = c.args.other.now in
+    let b = c.args.rhs.now in
     let f : Held a = record { half = search rules; low = search rules } in
     let g : Held b = record { half = search rules; low = search rules } in
     rw (← cmp_signed a b f g, c.cmp.ensures, c.halves.ensures.0, c.halves-2.ensures.0, c.halves.ensures.1, c.halves-2.ensures.1)
