@@ -9,7 +9,8 @@ use crate::layout::{
 };
 use crate::read::type_of;
 use evaluate::code::{
-    BITS, BOOL, INTEGER, OFFSETS, WIDEST_WORD, WIDTHS, is_binary_code, is_unary_code,
+    BINARY, BINARY_END, BITS, BOOL, INTEGER, OFFSETS, PARAMETER, UNARY, UNARY_END, WIDEST_WORD,
+    WIDTHS,
 };
 use range::Range;
 use word::Word;
@@ -46,6 +47,7 @@ fn are_fields(x: u64, xlimit: u64, y: u64, ylimit: u64, z: u64, zlimit: u64) -> 
 }
 
 // An operation of node n: operands below n, offsets below OFFSETS, widths at most WIDEST, unused fields 0.
+// Operators stand as ranges of codes: `is_unary_code` would be worked out in full for each node.
 fn is_operation(n: u64, code: u64, x: u64, y: u64, z: u64) -> bool
     ensures { result ≡ is_operation n code x y z }
 {
@@ -55,16 +57,21 @@ fn is_operation(n: u64, code: u64, x: u64, y: u64, z: u64) -> bool
         REFINE => are_fields(x, n, y, 1, z, 1),
         SLICE => are_fields(x, n, y, OFFSETS, z, WIDTHS),
         CONCAT => are_fields(x, n, y, n, z, WIDTHS),
-        _ if is_unary_code(code, z) => are_fields(x, n, y, 1, z, WIDTHS),
-        _ => is_binary_code(code) && are_fields(x, n, y, n, z, 1),
+        UNARY..PARAMETER => are_fields(x, n, y, 1, z, 1),
+        PARAMETER..UNARY_END => are_fields(x, n, y, 1, z, WIDTHS),
+        BINARY..BINARY_END => are_fields(x, n, y, n, z, 1),
+        _ => false,
     }
 }
 
-// An alias, plus 1: above its node and below the count; 0 for none.
+// An alias, plus 1: above its node and below the count; 0 for none. 0, the usual one, has an arm of its own: `||` made both tests each time.
 pub fn is_alias(n: u64, nodes: u64, alias: u64) -> bool
     ensures { result ≡ is_alias n nodes alias }
 {
-    alias == 0 || (n < alias - 1 && alias <= nodes)
+    match alias {
+        0 => true,
+        _ => n < alias - 1 && alias <= nodes,
+    }
 }
 
 fn is_node(g: &Region, n: u64, nodes: u64) -> bool

@@ -14,7 +14,7 @@ fn are_aliases(words: &[u64]) -> bool
 {
     let nodes = words.len() as u64;
 
-    // A loop that passes over 0 first: most alias words are 0, and `all` would put both tests of an alias to each.
+    // Most alias words are 0: the loop passes over them.
     for n in 0..nodes {
         let alias = words[n as usize];
         if alias != 0 && !is_alias(n, nodes, alias) {

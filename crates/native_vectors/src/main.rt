@@ -20,8 +20,8 @@ fn main(rt: HostRuntime) {
     let mut line = [0u8; LINE];
     let mut answer = [0u8; ROOM];
 
-    // A line whose answer found no room would end the replay as a malformed one does.
-    let has_room = ROOM <= answer.len();
+    // A line whose answer found no room would end the replay as a malformed one does: one line has the whole buffer.
+    let has_room = line.len() == LINE && ROOM <= answer.len();
     prove!(has_room);
     let _ = replay(
         &mut rt.stdin(),
