@@ -64,14 +64,11 @@ fn is_operation(n: u64, code: u64, x: u64, y: u64, z: u64) -> bool
     }
 }
 
-// An alias, plus 1: above its node and below the count; 0 for none. 0, the usual one, has an arm of its own: `||` made both tests each time.
+// An alias, plus 1: above its node and below the count; 0 for none.
 pub fn is_alias(n: u64, nodes: u64, alias: u64) -> bool
     ensures { result ≡ is_alias n nodes alias }
 {
-    match alias {
-        0 => true,
-        _ => n < alias - 1 && alias <= nodes,
-    }
+    alias == 0 || (n < alias - 1 && alias <= nodes)
 }
 
 fn is_node(g: &Region, n: u64, nodes: u64) -> bool

@@ -12,22 +12,19 @@ mod retains;
 use answers::{ROOM, put_answer_to};
 use lines::LINE;
 use region::WORDS;
-use vector_lines::replay;
+use vector_lines::replay_in_room;
 
 // Each line is answered before the next one is read: who writes it may wait for its answer.
 fn main(rt: HostRuntime) {
     let mut words = [0u64; WORDS];
     let mut line = [0u8; LINE];
     let mut answer = [0u8; ROOM];
-
-    // A line whose answer found no room would end the replay as a malformed one does: one line has the whole buffer.
-    let has_room = line.len() == LINE && ROOM <= answer.len();
-    prove!(has_room);
-    let _ = replay(
+    let _ = replay_in_room(
         &mut rt.stdin(),
         &mut rt.stdout(),
         LINE,
         &mut line,
+        ROOM,
         &mut answer,
         |line, out| put_answer_to(line, &mut words, out),
     );

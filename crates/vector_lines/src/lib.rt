@@ -2,7 +2,7 @@
 #![tactic(auto)]
 
 ghost use Rattle.std.specs.Io.KnownBytes.{Consumes, IsAtEnd};
-ghost use Rattle.std.specs.Prelude.{[], ◌∷◌, ◌++◌, ◌≡◌, ◌<◌, ◌≤◌, IfSome, IsFalse, IsTrue, OnOk, eqb, leb, ltb, length, take};
+ghost use Rattle.std.specs.Prelude.{[], ◌∷◌, ◌++◌, ◌≡◌, ◌<◌, ◌≤◌, ◌*◌, ◌/◌, IfSome, IsFalse, IsTrue, OnOk, eqb, leb, ltb, length, take};
 ghost use Rattle.word.specs.Value.{val, number_of};
 ghost use Rattle.word.specs.Option.{only, provided};
 ghost use Rattle.text.specs.Text.{placed, fitting, placed_if, end_of, placed_in};
@@ -203,4 +203,22 @@ pub fn replay<R: Read, W: Write, F: FnMut(&[u8], &mut [u8]) -> Option<usize>>(
         }
     }
     Err(ErrorKind::TimedOut.into())
+}
+
+// The same for a caller that shows that out holds `_room` bytes for each line of a block: with answers of at most so many no line ends the
+// replay for want of room.
+pub fn replay_in_room<R: Read, W: Write, F: FnMut(&[u8], &mut [u8]) -> Option<usize>>(
+    reader: &mut R,
+    writer: &mut W,
+    size: usize,
+    block: &mut [u8],
+    _room: usize,
+    out: &mut [u8],
+    answer: F,
+) -> Result<()>
+    requires callable { F.IsAlwaysCallable answer }
+    requires room { length block.old / size * _room ≤ length out.old }
+    ensures { OnOk result (Replays F.FnMut size answer (R.remaining reader.old) (R.remaining reader.new) (W.contents writer.old) (W.contents writer.new)) }
+{
+    replay(reader, writer, size, block, out, answer)
 }
